@@ -1,0 +1,2 @@
+-- verdicts of a row of checks
+pub mod Each

@@ -1,0 +1,2 @@
+-- the number of each fault, and which of several faults counts
+pub mod Verdict

@@ -1,0 +1,44 @@
+// Faults: which written limit an input breaks, and the number that a refused call returns for it.
+// Document 01, "Numbers by who can cause them".
+ghost use mathlib.Core.Path.{_≡_};
+ghost use Rattle.faults.specs.Verdict.{numberOf};
+
+// One case for each number of document 01, in its order.
+pub enum Fault {
+    TableLength,
+    Kind,
+    UnusedField,
+    Reference,
+    Depth,
+    StructureLength,
+    Record,
+    World,
+    EntryNumber,
+    Space,
+}
+
+// What a check answers: the input is within the limits, or the first fault in document 01's order.
+pub enum Verdict {
+    Accepted,
+    Refused(Fault),
+}
+
+impl Fault {
+    // The number that document 01 lists for the fault.
+    pub fn number(self) -> u8
+        ensures { λ r. ⌜ r ≡ numberOf self ⌝ }
+    {
+        match self {
+            Fault::TableLength => 1,
+            Fault::Kind => 2,
+            Fault::UnusedField => 3,
+            Fault::Reference => 4,
+            Fault::Depth => 5,
+            Fault::StructureLength => 6,
+            Fault::Record => 7,
+            Fault::World => 8,
+            Fault::EntryNumber => 9,
+            Fault::Space => 10,
+        }
+    }
+}

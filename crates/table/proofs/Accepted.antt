@@ -1,0 +1,94 @@
+-- What an accepted table is known to meet: the kinds are known, and used references are smaller than their entry's number.
+-- So the formula of an entry, and its truth, are those of document 01's table of kinds with the entries that it refers to.
+use mathlib.Core.Path.{_≡_, refl, ap, ap₂, _∙_}
+use mathlib.Core.Logic.{⊎-elim}
+use mathlib.Core.Bool.{Bool, true, false, not, _&&_, _||_}
+use mathlib.Core.List.{List}
+use Prim.Native.Nat.{ℕ, zero, suc, _<_, _≤_}
+use native.Mathlib.Omega.{arith}
+use lib.Dec.{leb}
+use lib.ListN.{length, getD}
+use borrow.Author.Tests.{leb-false}
+use Rattle.semantics.specs.Formula.{Formula, falsum, neg, conj, disj, atLeast, atMost}
+use Rattle.semantics.specs.Structure.{Structure}
+use Rattle.semantics.specs.Truth.{truth}
+use Rattle.faults.specs.declared.Fault.{Fault}
+use Rattle.faults.specs.declared.Fault.the-variants.{TableLength, Kind, UnusedField, Reference}
+use Rattle.faults.specs.declared.Verdict.{Verdict}
+use Rattle.faults.specs.declared.Verdict.the-variants.{Accepted, Refused}
+use Rattle.faults.specs.Verdict.{refuseIf, each}
+use Rattle.faults.proofs.Each.{both-accepted, each-accepted}
+use Rattle.table.specs.declared.entry.Entry.{Entry}
+use Rattle.table.specs.Entry.{entryAt, size}
+use Rattle.table.specs.Formulas.{kinds, formulaOf, formulaAt}
+use Rattle.table.specs.Check.{usesOf, hasStray, refersUp, entryVerdict, lengthFaulty, tableVerdict}
+use Rattle.table.proofs.Formulas.{earlier, earlier-below, formulaAt-earlier, truthOf, truth-formulaOf}
+
+-- an entry without a fault of its own, as number i of a table
+pub record Fitting (e : Entry) (i : ℕ) : Type 0 where
+  pub kind : e .kind < 8
+  pub first : usesOf (e .kind) .first ≡ true → e .first < i
+  pub second : usesOf (e .kind) .second ≡ true → e .second < i
+
+abbrev pub WellFormed : (ℕ → Entry) → ℕ → Type 0
+WellFormed entry n = (i : ℕ) → i < n → Fitting (entry i) i
+
+pub not-refused : (b : Bool) (f : Fault) → refuseIf b f ≡ Accepted → b ≡ false
+not-refused true f e = let z : _≡_ {A = ℕ} 0 1 = cc in absurd (omega arith)
+not-refused false f e = refl
+
+neither : (a b : Bool) → a || b ≡ false → (a ≡ false) × (b ≡ false)
+neither true b e = let z : _≡_ {A = ℕ} 0 1 = cc in absurd (omega arith)
+neither false b e = (refl, e)
+
+below-if-used : (used : Bool) (i j : ℕ) → used && leb i j ≡ false → used ≡ true → j < i
+below-if-used true i j e u = leb-false i j e
+below-if-used false i j e u = let z : _≡_ {A = ℕ} 0 1 = cc in absurd (omega arith)
+
+-- a formula reads only the references that its kind uses
+module _ (ref ref′ : ℕ → Formula) (e : Entry) where
+  kinds-ext : (k : ℕ) → (usesOf k .first ≡ true → ref (e .first) ≡ ref′ (e .first)) → (usesOf k .second ≡ true → ref (e .second) ≡ ref′ (e .second))
+    → getD (kinds ref e) k falsum ≡ getD (kinds ref′ e) k falsum
+  unfolding kinds usesOf
+  kinds-ext zero p q = refl
+  kinds-ext (suc zero) p q = refl
+  kinds-ext (suc (suc zero)) p q = refl
+  kinds-ext (suc (suc (suc zero))) p q = ap neg (p refl)
+  kinds-ext (suc (suc (suc (suc zero)))) p q = ap₂ conj (p refl) (q refl)
+  kinds-ext (suc (suc (suc (suc (suc zero))))) p q = ap₂ disj (p refl) (q refl)
+  kinds-ext (suc (suc (suc (suc (suc (suc zero)))))) p q = ap (atLeast (e .grade) (e .name)) (p refl)
+  kinds-ext (suc (suc (suc (suc (suc (suc (suc zero))))))) p q = ap (atMost (e .grade) (e .name)) (p refl)
+  kinds-ext (suc (suc (suc (suc (suc (suc (suc (suc k)))))))) p q = refl
+
+module _ {entry : ℕ → Entry} {n : ℕ} (wf : WellFormed entry n) where
+  -- the formula of an entry, from those of the entries that it refers to
+  pub formula-rule : (i : ℕ) → i < n → formulaAt entry i ≡ formulaOf (formulaAt entry) (entry i)
+  unfolding formulaOf
+  formula-rule i h =
+      formulaAt-earlier entry i
+      ∙ kinds-ext (earlier entry i) (formulaAt entry) (entry i) (entry i .kind)
+        (λ u. earlier-below entry i (entry i .first) (wf i h .first u))
+        (λ u. earlier-below entry i (entry i .second) (wf i h .second u))
+
+  -- the truth of an entry, from that of the entries that it refers to
+  pub truth-rule : (s : Structure) (w i : ℕ) → i < n
+    → truth s (formulaAt entry i) w ≡ truthOf s w (λ j. truth s (formulaAt entry j)) (entry i)
+  truth-rule s w i h = ap (λ (φ : Formula). truth s φ w) (formula-rule i h) ∙ truth-formulaOf s w (formulaAt entry) (entry i)
+
+entry-accepted : (e : Entry) (i : ℕ) → entryVerdict e i ≡ Accepted → Fitting e i
+unfolding entryVerdict
+entry-accepted e i ok =
+    let known = both-accepted (refuseIf (leb 8 (e .kind)) Kind) _ ok in
+    let plain = both-accepted (refuseIf (hasStray e) UnusedField) _ (known .1) in
+    let down = neither (usesOf (e .kind) .first && leb i (e .first)) _ (not-refused (refersUp e i) Reference (plain .1)) in
+    record {
+      kind = leb-false 8 (e .kind) (not-refused (leb 8 (e .kind)) Kind (known .0));
+      first = below-if-used (usesOf (e .kind) .first) i (e .first) (down .0);
+      second = below-if-used (usesOf (e .kind) .second) i (e .second) (down .1) }
+
+-- an accepted table is well-formed
+pub accepted : (bytes : List ℕ) → tableVerdict bytes ≡ Accepted → WellFormed (entryAt bytes) (size bytes)
+unfolding tableVerdict
+accepted bytes ok i h =
+    let entries = both-accepted (refuseIf (lengthFaulty (length bytes)) TableLength) _ ok .1 in
+    entry-accepted (entryAt bytes i) i (each-accepted _ (size bytes) (both-accepted (each (λ i. entryVerdict (entryAt bytes i) i) (size bytes)) _ entries .0) i h)

@@ -1,0 +1,1 @@
+-- References go down, so an entry is at most as deep as its number says.

@@ -1,0 +1,1 @@
+-- The bits of an entry that its kind does not use.

@@ -1,0 +1,8 @@
+-- the formulas of a table, entry by entry
+pub mod Formulas
+-- the bits of an entry that its kind does not use
+pub mod Fields
+-- depths
+pub mod Depth
+-- what an accepted table is known to meet
+pub mod Accepted

@@ -1,0 +1,27 @@
+-- The packed entries of a table: document 01, "The description table".
+use mathlib.Core.List.{List}
+use Prim.Native.Nat.{ℕ, _+_, _*_, _/_, _%_, _^_}
+use lib.ListN.{length, getD}
+use Rattle.table.specs.declared.entry.Entry.{Entry}
+
+-- the number that `width` bits spell, the lowest of them bit `at` of the word
+abbrev pub field : ℕ → ℕ → ℕ → ℕ
+field word at width = word / 2 ^ at % 2 ^ width
+
+-- kind 4 bits, name 8, first 6, second 6, grade 8, most significant first
+abbrev pub entryOf : ℕ → Entry
+entryOf word =
+    record { kind = field word 28 4; name = field word 20 8; first = field word 14 6; second = field word 8 6; grade = field word 0 8 }
+
+-- the i-th four bytes as a 32-bit word, most significant first
+unfoldable pub wordAt : List ℕ → ℕ → ℕ
+wordAt bytes i =
+    getD bytes (4 * i) 0 * 2 ^ 24 + getD bytes (4 * i + 1) 0 * 2 ^ 16 + getD bytes (4 * i + 2) 0 * 2 ^ 8 + getD bytes (4 * i + 3) 0
+
+-- entry i of the table that the bytes pack
+abbrev pub entryAt : List ℕ → ℕ → Entry
+entryAt bytes i = entryOf (wordAt bytes i)
+
+-- how many entries the table has (document 01: n)
+abbrev pub size : List ℕ → ℕ
+size bytes = length bytes / 4

@@ -1,0 +1,9 @@
+-- The description table of document 01: bytes, entries, formulas, and what a table is refused for.
+-- bytes to 32-bit words to entries
+pub mod Entry
+-- entries to formulas
+pub mod Formulas
+-- the faults 1 to 5, in order
+pub mod Check
+-- how many words of work space a decision needs
+pub mod Space

@@ -1,0 +1,58 @@
+// Entries: the packed 32-bit word, and its fields.
+ghost use mathlib.Core.Path.{_≡_};
+ghost use Prim.Native.Nat.{_<_};
+ghost use lib.ListN.{getD};
+ghost use Rattle.table.specs.Entry.{entryOf, wordAt, entryAt};
+
+// The fields of an entry. A field that its kind does not use means nothing.
+pub struct Entry {
+    pub kind: u32,
+    pub name: u32,
+    pub first: u32,
+    pub second: u32,
+    pub grade: u32,
+}
+
+impl Entry {
+    // Takes a 32-bit entry apart.
+    pub fn unpack(word: u32) -> Entry
+        ensures { λ r. ⌜ r ≡ entryOf word ⌝ }
+    {
+        Entry {
+            kind: (word >> 28) & 15,
+            name: (word >> 20) & 255,
+            first: (word >> 14) & 63,
+            second: (word >> 8) & 63,
+            grade: word & 255,
+        }
+    }
+}
+
+// The byte at a place, 0 past the end, in a type with room for the word that it is part of.
+fn byte_at(bytes: &[u8], at: usize) -> u32
+    ensures { λ r. ⌜ (r ≡ getD (now (bytes .entry)) at 0) × (r < 256) ⌝ }
+{
+    if at < bytes.len() { bytes[at] as u32 } else { 0 }
+}
+
+// Entry i of a table, packed; 0 past the table's end.
+pub fn word_at(table: &[u8], i: usize) -> u32
+    ensures { λ r. ⌜ r ≡ wordAt (now (table .entry)) i ⌝ }
+{
+    // Past this bound all four bytes are missing, and 4 * i might not fit.
+    if table.len() / 4 < i {
+        return 0;
+    }
+    let at = 4 * i;
+    byte_at(table, at) * 16777216
+        + byte_at(table, at + 1) * 65536
+        + byte_at(table, at + 2) * 256
+        + byte_at(table, at + 3)
+}
+
+// Entry i of a table.
+pub fn entry_at(table: &[u8], i: usize) -> Entry
+    ensures { λ r. ⌜ r ≡ entryAt (now (table .entry)) i ⌝ }
+{
+    Entry::unpack(word_at(table, i))
+}
