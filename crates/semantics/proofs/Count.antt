@@ -1,9 +1,10 @@
 -- Laws of `count`, how many of the numbers below a bound pass a test.
 -- Each is an induction on the bound: one more number adds its bit.
-use mathlib.Core.Path.{_≡_, refl, ap₂}
+use mathlib.Core.Path.{_≡_, refl, ap, ap₂}
 use mathlib.Core.Bool.{Bool, true, false, _&&_}
+use mathlib.Core.Logic.{⊎-elim}
 use Prim.Native.Nat.{ℕ, zero, suc, _+_, _≤_, _<_, zero-le}
-use native.Mathlib.Nat.{add-zero, add-suc, le-step, lt-suc-self}
+use native.Mathlib.Nat.{add-zero, add-suc, le-step, lt-suc-self, eq-or-lt-of-le, le-of-suc-le-suc, not-suc-le-zero}
 use native.Mathlib.Decide.{le-ind}
 use native.Mathlib.Omega.{arith}
 use lib.Dec.{eqb}
@@ -48,3 +49,15 @@ count-one p {k} {n} h =
     (rw (eq-eqb k k refl) (omega (arith, count-none {p = λ i. eqb i k && p i} k (λ i l. rw (ne-eqb i k (omega arith))))))
     (λ m l e. rw (ne-eqb m k (omega arith)) (omega arith))
     n h
+
+-- where every number passes, each one does: a rule of a table from one computed count
+pub count-all : (p : ℕ → Bool) (n : ℕ) → count p n ≡ n → (i : ℕ) → i < n → p i ≡ true
+unfolding count
+count-all p zero e i h = absurd (not-suc-le-zero h)
+count-all p (suc n) e i h = ⊎-elim (λ (at : i ≡ n). rw at (last (p n) refl)) (λ (l : i < n). count-all p n before i l) (eq-or-lt-of-le (le-of-suc-le-suc h))
+  where
+    before : count p n ≡ n
+    before = omega (arith, bit-mono (p n) true (λ e. refl), count-le p n)
+    last : (b : Bool) → p n ≡ b → b ≡ true
+    last true q = refl
+    last false q = absurd (omega (arith, count-le p n, ap bit q))

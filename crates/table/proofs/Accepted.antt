@@ -16,12 +16,12 @@ use Rattle.faults.specs.declared.Fault.{Fault}
 use Rattle.faults.specs.declared.Fault.the-variants.{TableLength, Kind, UnusedField, Reference}
 use Rattle.faults.specs.declared.Verdict.{Verdict}
 use Rattle.faults.specs.declared.Verdict.the-variants.{Accepted, Refused}
-use Rattle.faults.specs.Verdict.{refuseIf, each}
+use Rattle.faults.specs.Verdict.{refuseIf}
 use Rattle.faults.proofs.Each.{both-accepted, each-accepted}
 use Rattle.table.specs.declared.entry.Entry.{Entry}
 use Rattle.table.specs.Entry.{entryAt, size}
 use Rattle.table.specs.Formulas.{kinds, formulaOf, formulaAt}
-use Rattle.table.specs.Check.{usesOf, hasStray, refersUp, entryVerdict, lengthFaulty, tableVerdict}
+use Rattle.table.specs.Check.{usesOf, hasStray, refersUp, entryVerdict, entriesVerdict, lengthFaulty, tableVerdict}
 use Rattle.table.proofs.Formulas.{earlier, earlier-below, formulaAt-earlier, truthOf, truth-formulaOf}
 
 -- an entry without a fault of its own, as number i of a table
@@ -76,7 +76,6 @@ module _ {entry : ℕ → Entry} {n : ℕ} (wf : WellFormed entry n) where
   truth-rule s w i h = ap (λ (φ : Formula). truth s φ w) (formula-rule i h) ∙ truth-formulaOf s w (formulaAt entry) (entry i)
 
 entry-accepted : (e : Entry) (i : ℕ) → entryVerdict e i ≡ Accepted → Fitting e i
-unfolding entryVerdict
 entry-accepted e i ok =
     let known = both-accepted (refuseIf (leb 8 (e .kind)) Kind) _ ok in
     let plain = both-accepted (refuseIf (hasStray e) UnusedField) _ (known .1) in
@@ -91,4 +90,4 @@ pub accepted : (bytes : List ℕ) → tableVerdict bytes ≡ Accepted → WellFo
 unfolding tableVerdict
 accepted bytes ok i h =
     let entries = both-accepted (refuseIf (lengthFaulty (length bytes)) TableLength) _ ok .1 in
-    entry-accepted (entryAt bytes i) i (each-accepted _ (size bytes) (both-accepted (each (λ i. entryVerdict (entryAt bytes i) i) (size bytes)) _ entries .0) i h)
+    entry-accepted (entryAt bytes i) i (each-accepted _ (size bytes) (both-accepted (entriesVerdict (entryAt bytes) (size bytes)) _ entries .0) i h)

@@ -4,7 +4,7 @@ use mathlib.Core.Path.{_≡_, refl, sym, ap, _∙_, subst, fun-ext}
 use mathlib.Core.Logic.{⊎-elim}
 use mathlib.Core.Bool.{Bool, true, false, not, _&&_, _||_}
 use mathlib.Core.List.{List, [], _∷_, _++_}
-use Prim.Native.Nat.{ℕ, zero, suc, _+_, _<_, _≤_, max}
+use Prim.Native.Nat.{ℕ, zero, suc, _+_, _<_, _≤_}
 use native.Mathlib.Nat.{eq-or-lt-of-le, le-of-suc-le-suc, not-suc-le-zero, lt-suc-self}
 use native.Mathlib.Omega.{arith}
 use lib.Dec.{leb}
@@ -14,7 +14,7 @@ use Rattle.semantics.specs.Formula.{Formula, falsum, depth}
 use Rattle.semantics.specs.Structure.{Structure, successors}
 use Rattle.semantics.specs.Truth.{truth}
 use Rattle.table.specs.declared.entry.Entry.{Entry}
-use Rattle.table.specs.Formulas.{kinds, formulaOf, formulas, formulaAt}
+use Rattle.table.specs.Formulas.{kinds, formulaOf, depthOf, formulas, formulaAt}
 
 -- what entry i's references read as: the formulas of the entries before it, and falsum from i on
 abbrev pub earlier : (ℕ → Entry) → ℕ → ℕ → Formula
@@ -63,14 +63,7 @@ module _ (s : Structure) (w : ℕ) where
   unfolding formulaOf kinds truth
   truth-formulaOf ref e = sym (List·getD-map (λ (φ : Formula). truth s φ w) (kinds ref e) (e .kind) falsum)
 
--- document 01's words on depth, one row a kind: d j is the depth of entry j
-abbrev pub depthOf : (ℕ → ℕ) → Entry → ℕ
-depthOf d e =
-    getD
-    (0 ∷ 0 ∷ 0 ∷ d (e .first) ∷ max (d (e .first)) (d (e .second)) ∷ max (d (e .first)) (d (e .second)) ∷ suc (d (e .first)) ∷ suc (d (e .first)) ∷ [])
-    (e .kind)
-    0
-
-pub depth-formulaOf : (ref : ℕ → Formula) (e : Entry) → depth (formulaOf ref e) ≡ depthOf (λ j. depth (ref j)) e
+-- document 01's words on depth are those of the formulas
+pub depth-formulaOf : (ref : ℕ → Formula) (e : Entry) → depth (formulaOf ref e) ≡ depthOf (depth (ref (e .first))) (depth (ref (e .second))) (e .kind)
 unfolding formulaOf kinds depth
 depth-formulaOf ref e = sym (List·getD-map depth (kinds ref e) (e .kind) falsum)

@@ -3,6 +3,6 @@ pub mod Formulas
 -- the bits of an entry that its kind does not use
 pub mod Fields
 -- depths
-pub mod Depth
+pub mod Depths
 -- what an accepted table is known to meet
 pub mod Accepted

@@ -52,9 +52,21 @@ hasStray e =
 abbrev pub refersUp : Entry → ℕ → Bool
 refersUp e i = (usesOf (e .kind) .first && leb i (e .first)) || (usesOf (e .kind) .second && leb i (e .second))
 
--- 2, 3, 4
-unfoldable pub entryVerdict : Entry → ℕ → Verdict
-entryVerdict e i = andThen (refuseIf (leb 8 (e .kind)) Kind) (andThen (refuseIf (hasStray e) UnusedField) (refuseIf (refersUp e i) Reference))
+-- 3, then 4
+abbrev pub fieldsVerdict : Entry → ℕ → Verdict
+fieldsVerdict e i = andThen (refuseIf (hasStray e) UnusedField) (refuseIf (refersUp e i) Reference)
+
+-- 2, then 3, then 4
+abbrev pub entryVerdict : Entry → ℕ → Verdict
+entryVerdict e i = andThen (refuseIf (leb 8 (e .kind)) Kind) (fieldsVerdict e i)
+
+-- entry by entry
+abbrev pub entriesVerdict : (ℕ → Entry) → ℕ → Verdict
+entriesVerdict entry n = each (λ i. entryVerdict (entry i) i) n
+
+-- 5: some entry's depth is over 63
+abbrev pub depthVerdict : (ℕ → Entry) → ℕ → Verdict
+depthVerdict entry n = each (λ i. refuseIf (ltb 63 (depthAt entry i)) Depth) n
 
 -- 1
 abbrev pub lengthFaulty : ℕ → Bool
@@ -64,5 +76,4 @@ lengthFaulty n = eqb n 0 || ltb 256 n || not (eqb (n % 4) 0)
 unfoldable pub tableVerdict : List ℕ → Verdict
 tableVerdict bytes =
     andThen (refuseIf (lengthFaulty (length bytes)) TableLength)
-    (andThen (each (λ i. entryVerdict (entryAt bytes i) i) (size bytes))
-    (each (λ i. refuseIf (ltb 63 (depthAt (entryAt bytes) i)) Depth) (size bytes)))
+    (andThen (entriesVerdict (entryAt bytes) (size bytes)) (depthVerdict (entryAt bytes) (size bytes)))

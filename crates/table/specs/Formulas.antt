@@ -1,6 +1,7 @@
 -- What the entries of a table mean: document 01's table of kinds.
+use mathlib.Core.Path.{_≡_}
 use mathlib.Core.List.{List, [], _∷_, _++_}
-use Prim.Native.Nat.{ℕ, zero, suc}
+use Prim.Native.Nat.{ℕ, zero, suc, max, _<_, _≤_}
 use lib.ListN.{getD}
 use Rattle.semantics.specs.Formula.{Formula, verum, falsum, fact, neg, conj, disj, atLeast, atMost, depth}
 use Rattle.table.specs.declared.entry.Entry.{Entry}
@@ -36,3 +37,12 @@ formulaAt entry i = getD (formulas entry (suc i)) i falsum
 -- the depth of entry i
 abbrev pub depthAt : (ℕ → Entry) → ℕ → ℕ
 depthAt entry i = depth (formulaAt entry i)
+
+-- document 01's words on depth, a row a kind: a is the depth of the first part, b that of the second
+abbrev pub depthOf : ℕ → ℕ → ℕ → ℕ
+depthOf a b kind = getD (0 ∷ 0 ∷ 0 ∷ a ∷ max a b ∷ max a b ∷ suc a ∷ suc a ∷ []) kind 0
+
+-- a list holds the depths of the first n entries, and 0 behind them
+pub record Depths (entry : ℕ → Entry) (n : ℕ) (depths : List ℕ) : Type 0 where
+  pub below : (i : ℕ) → i < n → getD depths i 0 ≡ depthAt entry i
+  pub behind : (i : ℕ) → n ≤ i → getD depths i 0 ≡ 0

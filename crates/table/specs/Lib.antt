@@ -5,5 +5,7 @@ pub mod Entry
 pub mod Formulas
 -- the faults 1 to 5, in order
 pub mod Check
+-- the bits of a packed entry that its kind uses
+pub mod Mask
 -- how many words of work space a decision needs
 pub mod Space

@@ -1,1 +1,3 @@
+pub mod check;
+pub mod depth;
 pub mod entry;

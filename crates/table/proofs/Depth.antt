@@ -1,1 +1,0 @@
--- References go down, so an entry is at most as deep as its number says.
