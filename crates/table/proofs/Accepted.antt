@@ -22,6 +22,7 @@ use Rattle.table.specs.declared.entry.Entry.{Entry}
 use Rattle.table.specs.Entry.{entryAt, size}
 use Rattle.table.specs.Formulas.{kinds, formulaOf, formulaAt}
 use Rattle.table.specs.Check.{usesOf, hasStray, refersUp, entryVerdict, entriesVerdict, lengthFaulty, tableVerdict}
+use Rattle.table.proofs.Cases.{by-kind}
 use Rattle.table.proofs.Formulas.{earlier, earlier-below, formulaAt-earlier, truthOf, truth-formulaOf}
 
 -- an entry without a fault of its own, as number i of a table
@@ -46,19 +47,22 @@ below-if-used true i j e u = leb-false i j e
 below-if-used false i j e u = let z : _≡_ {A = ℕ} 0 1 = cc in absurd (omega arith)
 
 -- a formula reads only the references that its kind uses
-module _ (ref ref′ : ℕ → Formula) (e : Entry) where
-  kinds-ext : (k : ℕ) → (usesOf k .first ≡ true → ref (e .first) ≡ ref′ (e .first)) → (usesOf k .second ≡ true → ref (e .second) ≡ ref′ (e .second))
-    → getD (kinds ref e) k falsum ≡ getD (kinds ref′ e) k falsum
-  unfolding kinds usesOf
-  kinds-ext zero p q = refl
-  kinds-ext (suc zero) p q = refl
-  kinds-ext (suc (suc zero)) p q = refl
-  kinds-ext (suc (suc (suc zero))) p q = ap neg (p refl)
-  kinds-ext (suc (suc (suc (suc zero)))) p q = ap₂ conj (p refl) (q refl)
-  kinds-ext (suc (suc (suc (suc (suc zero))))) p q = ap₂ disj (p refl) (q refl)
-  kinds-ext (suc (suc (suc (suc (suc (suc zero)))))) p q = ap (atLeast (e .grade) (e .name)) (p refl)
-  kinds-ext (suc (suc (suc (suc (suc (suc (suc zero))))))) p q = ap (atMost (e .grade) (e .name)) (p refl)
-  kinds-ext (suc (suc (suc (suc (suc (suc (suc (suc k)))))))) p q = refl
+kinds-ext : (ref ref′ : ℕ → Formula) (e : Entry) (k : ℕ) → (usesOf k .first ≡ true → ref (e .first) ≡ ref′ (e .first))
+  → (usesOf k .second ≡ true → ref (e .second) ≡ ref′ (e .second)) → getD (kinds ref e) k falsum ≡ getD (kinds ref′ e) k falsum
+unfolding kinds usesOf
+kinds-ext ref ref′ e =
+    by-kind
+    (λ k. (usesOf k .first ≡ true → ref (e .first) ≡ ref′ (e .first)) → (usesOf k .second ≡ true → ref (e .second) ≡ ref′ (e .second))
+      → getD (kinds ref e) k falsum ≡ getD (kinds ref′ e) k falsum)
+    (λ p q. refl)
+    (λ p q. refl)
+    (λ p q. refl)
+    (λ p q. ap neg (p refl))
+    (λ p q. ap₂ conj (p refl) (q refl))
+    (λ p q. ap₂ disj (p refl) (q refl))
+    (λ p q. ap (atLeast (e .grade) (e .name)) (p refl))
+    (λ p q. ap (atMost (e .grade) (e .name)) (p refl))
+    (λ k p q. refl)
 
 module _ {entry : ℕ → Entry} {n : ℕ} (wf : WellFormed entry n) where
   -- the formula of an entry, from those of the entries that it refers to

@@ -12,6 +12,7 @@ use lib.Seq.{getD-set-same, getD-set-other}
 use Rattle.semantics.specs.Formula.{Formula, falsum, depth}
 use Rattle.table.specs.declared.entry.Entry.{Entry}
 use Rattle.table.specs.Formulas.{formulaOf, formulaAt, depthAt, depthOf, Depths}
+use Rattle.table.proofs.Cases.{by-kind}
 use Rattle.table.proofs.Formulas.{earlier, earlier-below, earlier-past, formulaAt-earlier, depth-formulaOf}
 
 zeros-at : (n i : ℕ) → _≡_ {A = ℕ} (getD (replicate n 0) i 0) 0
@@ -20,15 +21,8 @@ zeros-at (suc n) zero = refl
 zeros-at (suc n) (suc i) = zeros-at n i
 
 depthOf-le : (a b m k : ℕ) → a ≤ m → b ≤ m → depthOf a b k ≤ suc m
-depthOf-le a b m zero p q = zero-le
-depthOf-le a b m (suc zero) p q = zero-le
-depthOf-le a b m (suc (suc zero)) p q = zero-le
-depthOf-le a b m (suc (suc (suc zero))) p q = omega arith
-depthOf-le a b m (suc (suc (suc (suc zero)))) p q = omega arith
-depthOf-le a b m (suc (suc (suc (suc (suc zero))))) p q = omega arith
-depthOf-le a b m (suc (suc (suc (suc (suc (suc zero)))))) p q = omega arith
-depthOf-le a b m (suc (suc (suc (suc (suc (suc (suc zero))))))) p q = omega arith
-depthOf-le a b m (suc (suc (suc (suc (suc (suc (suc (suc k)))))))) p q = zero-le
+depthOf-le a b m k p q =
+    by-kind (λ k. depthOf a b k ≤ suc m) zero-le zero-le zero-le (omega arith) (omega arith) (omega arith) (omega arith) (omega arith) (λ k. zero-le) k
 
 module _ (entry : ℕ → Entry) where
   pub depthAt-rule : (i : ℕ) → depthAt entry i ≡ depthOf (depth (earlier entry i (entry i .first))) (depth (earlier entry i (entry i .second))) (entry i .kind)

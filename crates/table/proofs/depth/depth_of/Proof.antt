@@ -1,23 +1,26 @@
 -- `depth_of` meets its contract: each arm is a row of the definition.
 use mathlib.Core.Path.{_≡_, refl}
-use Prim.Native.Nat.{ℕ, zero, suc}
+use Prim.Native.Nat.{ℕ}
 use native.Mathlib.Numerals.{add-one}
 use borrow.Author.Needs.{needs}
 use Rattle.table.specs.Formulas.{depthOf}
+use Rattle.table.proofs.Cases.{by-kind}
 use Rattle.table.proofs.depth.depth_of.Statement.{statement}
 use Rattle.table.proofs.depth.depth_of.Tie as tie
 
 -- the kinds without a part have depth 0
 no-part : (a b k : ℕ) → (k ≡ 3 → ⊥) → (k ≡ 4 → ⊥) → (k ≡ 5 → ⊥) → (k ≡ 6 → ⊥) → (k ≡ 7 → ⊥) → 0 ≡ depthOf a b k
-no-part a b zero h3 h4 h5 h6 h7 = refl
-no-part a b (suc zero) h3 h4 h5 h6 h7 = refl
-no-part a b (suc (suc zero)) h3 h4 h5 h6 h7 = refl
-no-part a b (suc (suc (suc zero))) h3 h4 h5 h6 h7 = absurd (h3 refl)
-no-part a b (suc (suc (suc (suc zero)))) h3 h4 h5 h6 h7 = absurd (h4 refl)
-no-part a b (suc (suc (suc (suc (suc zero))))) h3 h4 h5 h6 h7 = absurd (h5 refl)
-no-part a b (suc (suc (suc (suc (suc (suc zero)))))) h3 h4 h5 h6 h7 = absurd (h6 refl)
-no-part a b (suc (suc (suc (suc (suc (suc (suc zero))))))) h3 h4 h5 h6 h7 = absurd (h7 refl)
-no-part a b (suc (suc (suc (suc (suc (suc (suc (suc k)))))))) h3 h4 h5 h6 h7 = refl
+no-part a b =
+    by-kind (λ k. (k ≡ 3 → ⊥) → (k ≡ 4 → ⊥) → (k ≡ 5 → ⊥) → (k ≡ 6 → ⊥) → (k ≡ 7 → ⊥) → 0 ≡ depthOf a b k)
+    (λ h3 h4 h5 h6 h7. refl)
+    (λ h3 h4 h5 h6 h7. refl)
+    (λ h3 h4 h5 h6 h7. refl)
+    (λ h3 h4 h5 h6 h7. absurd (h3 refl))
+    (λ h3 h4 h5 h6 h7. absurd (h4 refl))
+    (λ h3 h4 h5 h6 h7. absurd (h5 refl))
+    (λ h3 h4 h5 h6 h7. absurd (h6 refl))
+    (λ h3 h4 h5 h6 h7. absurd (h7 refl))
+    (λ k h3 h4 h5 h6 h7. refl)
 
 returns-6 : tie.Need-returns-6
 returns-6 c =
