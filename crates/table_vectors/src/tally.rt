@@ -1,0 +1,69 @@
+// How many cases were run, and how many came out as expected.
+use crate::build::Room;
+use faults::Verdict;
+use libc::STDOUT_FILENO;
+
+// `case` is the number of the last case run. Each subject counts from a thousand of its own, so that the number says
+// where the case stands.
+pub struct Tally {
+    case: u32,
+    run: u32,
+    right: u32,
+}
+
+// The number for the first bytes of a table, 0 where they are accepted. More bytes than there are give 255, which no
+// case expects.
+fn answer(table: Room, bytes: usize) -> u8 {
+    if 260 < bytes {
+        return 255;
+    }
+    let verdict = hurnavis::check_table(&table[..bytes]);
+    match verdict {
+        Verdict::Accepted => 0,
+        Verdict::Refused(fault) => fault.number(),
+    }
+}
+
+fn report(case: u32, got: u8, expected: u8) {
+    io::write_all(STDOUT_FILENO, b"case ");
+    io::print_decimal(STDOUT_FILENO, case as u64);
+    io::write_all(STDOUT_FILENO, b": got ");
+    io::print_decimal(STDOUT_FILENO, got as u64);
+    io::write_all(STDOUT_FILENO, b", expected ");
+    io::print_decimal(STDOUT_FILENO, expected as u64);
+    io::write_all(STDOUT_FILENO, b"\n");
+}
+
+impl Tally {
+    pub fn new() -> Tally {
+        Tally { case: 0, run: 0, right: 0 }
+    }
+
+    // Opens a subject with its thousand.
+    pub fn subject(self, thousand: u32) -> Tally {
+        Tally { case: thousand, run: self.run, right: self.right }
+    }
+
+    // Runs a case on the first bytes of a table, and reports it if it comes out differently. The counts stay far below
+    // where they would wrap.
+    pub fn case(self, table: Room, bytes: usize, expected: u8) -> Tally {
+        let case = std::num::wrapping_add_u32(self.case, 1);
+        let run = std::num::wrapping_add_u32(self.run, 1);
+        let got = answer(table, bytes);
+        if got == expected {
+            let right = std::num::wrapping_add_u32(self.right, 1);
+            return Tally { case: case, run: run, right: right };
+        }
+        report(case, got, expected);
+        Tally { case: case, run: run, right: self.right }
+    }
+
+    // The last line.
+    pub fn print(self) {
+        io::write_all(STDOUT_FILENO, b"table vectors: ");
+        io::print_decimal(STDOUT_FILENO, self.right as u64);
+        io::write_all(STDOUT_FILENO, b" of ");
+        io::print_decimal(STDOUT_FILENO, self.run as u64);
+        io::write_all(STDOUT_FILENO, b" as expected\n");
+    }
+}

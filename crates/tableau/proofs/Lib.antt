@@ -1,0 +1,23 @@
+-- The laws of the tableau.
+-- two tests together
+pub mod Tests
+-- what the truth of an entry says of its parts
+pub mod Rules
+-- when the rule of a wanted entry is met
+pub mod Treated
+-- what is wanted grows entry by entry
+pub mod Growth
+-- a world that is as wanted of what no rule settles is as wanted
+pub mod Closure
+-- needs and limits as bounds on the number of successors
+pub mod Bounds
+-- a successor's promises as what is wanted there
+pub mod Promises
+-- from a world to a solution for every relation
+pub mod Solved
+-- finite search
+pub mod Search
+-- from rows to the items of a root
+pub mod Items
+-- from solutions to a world
+pub mod Built

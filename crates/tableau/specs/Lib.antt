@@ -1,0 +1,5 @@
+-- What a tableau speaks of: what is wanted at a world, and what is asked of its successors.
+-- entries wanted true and entries wanted false
+pub mod Wants
+-- needs, limits, promises, rows
+pub mod Counting
