@@ -1,1 +1,3 @@
-// x
+pub mod check;
+pub mod read;
+pub mod record;
