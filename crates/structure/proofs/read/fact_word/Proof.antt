@@ -46,7 +46,7 @@ here c =
 loop-again : tie.Need-loop-again Inv-loop μ-loop
 loop-again c =
     let l = c .before .before .before .loop in
-    (search needs, rw (add-one (l .i)) (ap₂ bitOr (l .inv .1) (here c) ∙ sym (some-word-more _ (l .i) _)))
+    (search needs, rw (add-one (l .i)) (ap₂ bitOr (l .inv .1) (here c) ∙ some-word-more _ (l .i) _))
 
 returns : tie.Need-returns Inv-loop μ-loop
 unfolding stated

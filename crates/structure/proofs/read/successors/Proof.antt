@@ -1,59 +1,51 @@
+-- `successors` meets its contract. The invariant: each word is that of the links that the records passed state.
+use mathlib.Core.Path.{_≡_, refl, sym, ap, _∙_}
+use Prim.Native.Nat.{ℕ, _-_, _≤_, _<_}
+use native.Mathlib.Numerals.{add-one}
+use native.Mathlib.Omega.{arith}
+use lib.ListN.{length, getD, length-set}
+use borrow.Author.Needs.{needs}
+use Rattle.packed.proofs.Zeros.{zeros-at}
+use Rattle.structure.specs.Record.{recordAt, records, worldsOf}
+use Rattle.structure.specs.Read.{stated}
+use Rattle.structure.proofs.Accepted.{accepted}
+use Rattle.structure.proofs.Stated.{some-word-none, linksFrom, links-more, successor-words}
 use Rattle.structure.proofs.read.successors.Statement.{statement}
 use Rattle.structure.proofs.read.successors.Tie as tie
-use Rattle.structure.proofs.read.successors.Reads as reads
-use Rattle.structure.proofs.read.successors.Lts as lts
-use Rattle.structure.proofs.read.one_world.Reads as one-world-reads
-use Rattle.structure.proofs.record.record_at.Reads as record-at-reads
 
 abbrev Inv-loop : tie.InvT-loop
-Inv-loop bytes relation n to₀ i₀ to i = ?
+Inv-loop bytes relation n to₀ i₀ to i =
+    (i ≤ n) × (length to ≡ 64) × ((v : ℕ) → getD to v 0 ≡ linksFrom (recordAt bytes) relation v i)
 
 abbrev μ-loop : tie.MeasureT-loop
-μ-loop bytes relation n to₀ i₀ to i = ?
+μ-loop bytes relation n to₀ i₀ to i = n - i
 
--- src/read.rt:58:5
 loop-holds : tie.Need-loop-holds Inv-loop μ-loop
-loop-holds c = ?
+loop-holds c = (search needs, refl, λ v. zeros-at 64 v ∙ sym (some-word-none _ _))
 
--- src/read.rt:59:13
-record-at-requires : tie.Need-record-at-requires Inv-loop μ-loop
-record-at-requires c κs = ?
+-- the worlds of a record are numbers below 64
+below : (c : tie.After-record-at Inv-loop μ-loop) → (c .record-at .result .world < 64) × (c .record-at .result .to < 64)
+below c =
+    let r = recordAt (c .before .before .before .before .args .bytes .now) (c .before .before .loop .i) in
+    let from : c .record-at .result .world ≡ r .world = cc in
+    let to : c .record-at .result .to ≡ r .to = cc in
+    omega arith
 
--- src/read.rt:60:20
-cast-from : tie.Need-cast-from Inv-loop μ-loop
-cast-from c = ?
-
--- src/read.rt:61:21
-one-world-requires : tie.Need-one-world-requires Inv-loop μ-loop
-one-world-requires c κs = ?
-
--- src/read.rt:61:9
-mul-to : tie.Need-mul-to Inv-loop μ-loop
-mul-to c = ?
-
--- src/read.rt:61:9
-array-read-to : tie.Need-array-read-to Inv-loop μ-loop
-array-read-to c = ?
-
--- src/read.rt:61:9
-array-write-to : tie.Need-array-write-to Inv-loop μ-loop
-array-write-to c = ?
-
--- src/read.rt:62:9
-add-i : tie.Need-add-i Inv-loop μ-loop
-add-i c = ?
-
--- src/read.rt:58:5
-loop-less : tie.Need-loop-less Inv-loop μ-loop
-loop-less c = ?
-
--- src/read.rt:58:5
 loop-again : tie.Need-loop-again Inv-loop μ-loop
-loop-again c = ?
+loop-again c =
+    let s = c .before .before .before .before .before .before in
+    let row = recordAt (s .args .bytes .now) in
+    let l = c .before .before .before .before .loop in
+    let read = c .before .before .record-at .ensures in
+    let within = accepted (s .args .bytes .now) (s .pre) (l .i) (search needs) in
+    let adds = rw read at (c .one-world .ensures) (worldsOf row) (λ k. within .link k .1) in
+    (search needs, simp length-set (l .inv .1), rw (add-one (l .i), read) (links-more row (s .args .relation) (l .to) (l .i) _ (l .inv .2) (omega arith) adds))
 
--- src/read.rt:51:1
 returns : tie.Need-returns Inv-loop μ-loop
-returns c = ?
+returns c =
+    let s = c .before .before .before in
+    let e : c .before .loop .i ≡ records (s .args .bytes .now) = omega arith in
+    successor-words (recordAt (s .args .bytes .now)) (s .args .relation) _ _ (accepted (s .args .bytes .now) (s .pre)) (rw e at (c .before .loop .inv .2))
 
 pub successors-spec : {M : Type 1} → statement M
 successors-spec =
@@ -62,13 +54,13 @@ successors-spec =
     Inv-loop
     μ-loop
     loop-holds
-    record-at-requires
-    cast-from
-    one-world-requires
-    mul-to
-    array-read-to
-    array-write-to
-    add-i
-    loop-less
+    (λ c κs. search needs)
+    (λ c. search needs)
+    (λ c κs. below (c .before) .1)
+    (λ c. omega (arith, below (c .before .before)))
+    (λ c. below (c .before .before) .0)
+    (λ c. below (c .before .before) .0)
+    (λ c. search needs)
+    (λ c. search needs)
     loop-again
     returns)
