@@ -9,7 +9,7 @@ use native.Mathlib.Decide.{le-ind, decLt}
 use native.Mathlib.Numerals.{one-add}
 use native.Mathlib.Omega.{arith}
 use lib.Arith.{digits-lt}
-use lib.Bits.{bitAnd, bitOr, and-block, and-shr, and-mod, or-shr, or-mod, or-shifted-r}
+use lib.Bits.{bitAnd, bitOr, and-shr, and-mod, and-lt, or-shr, or-mod, or-lt, or-shifted-r}
 use lib.Count.{ones, ones-cat, leadingZeros, leading-top}
 use lib.Dec.{eqb, lit<}
 use lib.Pow.{pow-pos, pow-mono, pow-lt, high, low, field, mod-pow-add, mod-mod-pow}
@@ -150,6 +150,28 @@ word-bits w {a} h = sym (word-mod a w ∙ mod-eq-of-lt h)
 pub bits-ext : (w : ℕ) {a b : ℕ} → a < 2 ^ w → b < 2 ^ w → ((i : ℕ) → i < w → bitAt a i ≡ bitAt b i) → a ≡ b
 bits-ext w ha hb h = word-bits w ha ∙ word-ext w h ∙ sym (word-bits w hb)
 
+-- the words of no number and of one
+pub word-none : {p : ℕ → Bool} (n : ℕ) → ((i : ℕ) → i < n → p i ≡ false) → word p n ≡ 0
+word-none {p} n h = bits-ext n (word-lt p n) (pow-pos n) (λ i l. bit-word p l ∙ h i l ∙ sym (bit-zero i))
+
+pub word-one : {k n : ℕ} → k < n → word (λ i. eqb i k) n ≡ 2 ^ k
+word-one {k} {n} h = bits-ext n (word-lt _ n) (pow-lt h) (λ i l. bit-word _ l ∙ sym (bit-pow k i))
+
+-- an operation on words is one on tests
+module _ (op : ℕ → ℕ → ℕ) (f : Bool → Bool → Bool)
+    (bit-by-bit : (a b i : ℕ) → bitAt (op a b) i ≡ f (bitAt a i) (bitAt b i))
+    (narrow : (k a b : ℕ) → a < 2 ^ k → b < 2 ^ k → op a b < 2 ^ k) where
+  word-op : (p q : ℕ → Bool) (n : ℕ) → op (word p n) (word q n) ≡ word (λ i. f (p i) (q i)) n
+  word-op p q n =
+      bits-ext n (narrow n (word p n) (word q n) (word-lt p n) (word-lt q n)) (word-lt _ n)
+      (λ i l. bit-by-bit (word p n) (word q n) i ∙ ap₂ f (bit-word p l) (bit-word q l) ∙ sym (bit-word (λ j. f (p j) (q j)) l))
+
+pub word-both : (p q : ℕ → Bool) (n : ℕ) → bitAnd (word p n) (word q n) ≡ word (λ i. p i && q i) n
+word-both = word-op bitAnd _&&_ bit-and and-lt
+
+pub word-either : (p q : ℕ → Bool) (n : ℕ) → bitOr (word p n) (word q n) ≡ word (λ i. p i || q i) n
+word-either = word-op bitOr _||_ bit-or or-lt
+
 -- ---- the complement: a word and the word of the opposite test fill every place
 
 fill-step : (b : Bool) (x y z : ℕ) → x + y + 1 ≡ z → bit b * z + x + (bit (not b) * z + y) + 1 ≡ z + z
@@ -186,13 +208,6 @@ ones-word p (suc n) = ones-cat n (bit (p n)) (word p n) (word-lt p n) ∙ ap₂ 
 
 pub ones-count : (w : ℕ) {a : ℕ} → a < 2 ^ w → ones a ≡ count (bitAt a) w
 ones-count w {a} h = ap ones (word-bits w h) ∙ ones-word (bitAt a) w
-
-pub word-both : (p q : ℕ → Bool) (n : ℕ) → bitAnd (word p n) (word q n) ≡ word (λ i. p i && q i) n
-unfolding word
-word-both p q zero = refl
-word-both p q (suc n) =
-    and-block n (bit (p n)) (bit (q n)) (word p n) (word q n) (word-lt p n) (word-lt q n)
-    ∙ ap₂ (λ (x y : ℕ). x * 2 ^ n + y) (and-bits (p n) (q n)) (word-both p q n)
 
 pub ones-both : (p q : ℕ → Bool) (n : ℕ) → ones (bitAnd (word p n) (word q n)) ≡ count (λ i. p i && q i) n
 ones-both p q n = ap ones (word-both p q n) ∙ ones-word (λ i. p i && q i) n

@@ -17,7 +17,7 @@ use Rattle.faults.specs.declared.Fault.the-variants.{TableLength, Kind, UnusedF
 use Rattle.faults.specs.declared.Verdict.{Verdict}
 use Rattle.faults.specs.declared.Verdict.the-variants.{Accepted, Refused}
 use Rattle.faults.specs.Verdict.{refuseIf}
-use Rattle.faults.proofs.Each.{both-accepted, each-accepted}
+use Rattle.faults.proofs.Each.{not-refused, neither, both-accepted, each-accepted}
 use Rattle.table.specs.declared.entry.Entry.{Entry}
 use Rattle.table.specs.Entry.{entryAt, size}
 use Rattle.table.specs.Formulas.{kinds, formulaOf, formulaAt}
@@ -33,14 +33,6 @@ pub record Fitting (e : Entry) (i : ℕ) : Type 0 where
 
 abbrev pub WellFormed : (ℕ → Entry) → ℕ → Type 0
 WellFormed entry n = (i : ℕ) → i < n → Fitting (entry i) i
-
-pub not-refused : (b : Bool) (f : Fault) → refuseIf b f ≡ Accepted → b ≡ false
-not-refused true f e = let z : _≡_ {A = ℕ} 0 1 = cc in absurd (omega arith)
-not-refused false f e = refl
-
-neither : (a b : Bool) → a || b ≡ false → (a ≡ false) × (b ≡ false)
-neither true b e = let z : _≡_ {A = ℕ} 0 1 = cc in absurd (omega arith)
-neither false b e = (refl, e)
 
 below-if-used : (used : Bool) (i j : ℕ) → used && leb i j ≡ false → used ≡ true → j < i
 below-if-used true i j e u = leb-false i j e

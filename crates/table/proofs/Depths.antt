@@ -9,16 +9,12 @@ use native.Mathlib.Decide.{decLt}
 use native.Mathlib.Omega.{arith}
 use lib.ListN.{length, getD, replicate, set}
 use lib.Seq.{getD-set-same, getD-set-other}
+use Rattle.packed.proofs.Zeros.{zeros-at}
 use Rattle.semantics.specs.Formula.{Formula, falsum, depth}
 use Rattle.table.specs.declared.entry.Entry.{Entry}
 use Rattle.table.specs.Formulas.{formulaOf, formulaAt, depthAt, depthOf, Depths}
 use Rattle.table.proofs.Cases.{by-kind}
 use Rattle.table.proofs.Formulas.{earlier, earlier-below, earlier-past, formulaAt-earlier, depth-formulaOf}
-
-zeros-at : (n i : ℕ) → _≡_ {A = ℕ} (getD (replicate n 0) i 0) 0
-zeros-at zero i = refl
-zeros-at (suc n) zero = refl
-zeros-at (suc n) (suc i) = zeros-at n i
 
 depthOf-le : (a b m k : ℕ) → a ≤ m → b ≤ m → depthOf a b k ≤ suc m
 depthOf-le a b m k p q =

@@ -9,7 +9,8 @@ use lib.Bits.{bitAnd, and-block, and-mask, and-zero-r}
 use lib.Dec.{eqb, eqb·suc-zero}
 use lib.Pow.{pow-pos, ones-lt, split, high, shr-shr}
 use borrow.Author.Tests.{eq-eqb, ne-eqb, not-true, not-false}
-use Rattle.table.specs.Entry.{field, entryOf}
+use Rattle.packed.specs.Field.{field}
+use Rattle.table.specs.Entry.{entryOf}
 use Rattle.table.specs.Check.{Uses, usesOf, stray, hasStray}
 use Rattle.table.specs.Mask.{onBits, usedBits}
 

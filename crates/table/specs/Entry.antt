@@ -1,12 +1,9 @@
 -- The packed entries of a table: document 01, "The description table".
 use mathlib.Core.List.{List}
-use Prim.Native.Nat.{ℕ, _+_, _*_, _/_, _%_, _^_}
+use Prim.Native.Nat.{ℕ, _+_, _*_, _/_, _^_}
 use lib.ListN.{length, getD}
+use Rattle.packed.specs.Field.{field}
 use Rattle.table.specs.declared.entry.Entry.{Entry}
-
--- the number that `width` bits spell, the lowest of them bit `at` of the word
-abbrev pub field : ℕ → ℕ → ℕ → ℕ
-field word at width = word / 2 ^ at % 2 ^ width
 
 -- kind 4 bits, name 8, first 6, second 6, grade 8, most significant first
 abbrev pub entryOf : ℕ → Entry

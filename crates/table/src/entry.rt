@@ -1,8 +1,8 @@
 // Entries: the packed 32-bit word, and its fields.
 ghost use mathlib.Core.Path.{_≡_};
-ghost use Prim.Native.Nat.{_<_};
-ghost use lib.ListN.{getD};
 ghost use Rattle.table.specs.Entry.{entryOf, wordAt, entryAt};
+
+use packed::byte_at;
 
 // The fields of an entry. A field that its kind does not use means nothing.
 pub struct Entry {
@@ -26,13 +26,6 @@ impl Entry {
             grade: word & 255,
         }
     }
-}
-
-// The byte at a place, 0 past the end, in a type with room for the word that it is part of.
-fn byte_at(bytes: &[u8], at: usize) -> u32
-    ensures { λ r. ⌜ (r ≡ getD (now (bytes .entry)) at 0) × (r < 256) ⌝ }
-{
-    if at < bytes.len() { bytes[at] as u32 } else { 0 }
 }
 
 // Entry i of a table, packed; 0 past the table's end.

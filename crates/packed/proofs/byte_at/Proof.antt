@@ -3,8 +3,8 @@ use mathlib.Core.Path.{sym}
 use native.Mathlib.Omega.{arith}
 use lib.ListN.{List·getD-eq-default}
 use borrow.Author.Needs.{needs}
-use Rattle.table.proofs.entry.byte_at.Statement.{statement}
-use Rattle.table.proofs.entry.byte_at.Tie as tie
+use Rattle.packed.proofs.byte_at.Statement.{statement}
+use Rattle.packed.proofs.byte_at.Tie as tie
 
 cast-result : tie.Need-cast-result
 cast-result c = omega (arith, c .shared-slice-known .given (c .before .before .args .at))

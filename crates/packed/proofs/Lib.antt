@@ -1,0 +1,2 @@
+-- arrays before anything is read into them
+pub mod Zeros

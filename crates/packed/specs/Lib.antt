@@ -1,0 +1,2 @@
+-- the fields of a packed word
+pub mod Field

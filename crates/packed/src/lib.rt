@@ -1,0 +1,11 @@
+// What packed tables and packed structures share: the bytes that their words are made of.
+ghost use mathlib.Core.Path.{_≡_};
+ghost use Prim.Native.Nat.{_<_};
+ghost use lib.ListN.{getD};
+
+// The byte at a place, 0 past the end, in a type with room for the word that it is part of.
+pub fn byte_at(bytes: &[u8], at: usize) -> u32
+    ensures { λ r. ⌜ (r ≡ getD (now (bytes .entry)) at 0) × (r < 256) ⌝ }
+{
+    if at < bytes.len() { bytes[at] as u32 } else { 0 }
+}

@@ -1,0 +1,40 @@
+-- What packed records state: document 01, "The drawn build".
+use mathlib.Core.Path.{_≡_}
+use mathlib.Core.Bool.{Bool, false, _&&_, _||_}
+use mathlib.Core.List.{List}
+use Prim.Native.Nat.{ℕ, zero, suc, _≤_, _<_}
+use lib.Dec.{eqb}
+use lib.ListN.{getD}
+use Rattle.semantics.specs.Structure.{Structure}
+use Rattle.sets.specs.Word.{word}
+use Rattle.structure.specs.declared.record.Record.{Record}
+use Rattle.structure.specs.Record.{recordAt, records, worldsOf}
+
+-- does some number below the bound pass the test
+unfoldable pub some : (ℕ → Bool) → ℕ → Bool
+some p zero = false
+some p (suc n) = some p n || p n
+
+-- kind 1: the fact p holds at the world w
+abbrev pub statesFact : Record → ℕ → ℕ → Bool
+statesFact r p w = eqb (r .kind) 1 && eqb (r .name) p && eqb w (r .world)
+
+-- kind 2: a link of the relation p leads from v to w
+abbrev pub statesLink : Record → ℕ → ℕ → ℕ → Bool
+statesLink r p v w = eqb (r .kind) 2 && eqb (r .name) p && eqb v (r .world) && eqb w (r .to)
+
+-- the structure that the first n records state. A fact that no record states does not hold; a repeated record adds nothing
+unfoldable pub stated : (ℕ → Record) → ℕ → Structure
+stated row n = record {
+  worlds = worldsOf row;
+  holds = λ p w. some (λ i. statesFact (row i) p w) n;
+  links = λ p v w. some (λ i. statesLink (row i) p v w) n }
+
+-- the structure that the bytes pack
+abbrev pub structureOf : List ℕ → Structure
+structureOf bytes = stated (recordAt bytes) (records bytes)
+
+-- at place v of a list stands the word of the worlds that links of the relation lead to from v; 0 behind the worlds
+pub record SuccessorWords (s : Structure) (relation : ℕ) (words : List ℕ) : Type 0 where
+  pub below : (v : ℕ) → v < s .worlds → getD words v 0 ≡ word (s .links relation v) (s .worlds)
+  pub behind : (v : ℕ) → s .worlds ≤ v → getD words v 0 ≡ 0

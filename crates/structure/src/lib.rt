@@ -1,0 +1,3 @@
+pub mod check;
+pub mod read;
+pub mod record;
