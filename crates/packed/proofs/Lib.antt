@@ -1,2 +1,4 @@
 -- arrays before anything is read into them
 pub mod Zeros
+-- lists that are filled from the front
+pub mod Filling

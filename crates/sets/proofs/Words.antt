@@ -4,12 +4,12 @@ use mathlib.Core.Path.{_≡_, refl, sym, ap, ap₂, _∙_}
 use mathlib.Core.Bool.{Bool, true, false, not, _&&_, _||_}
 use mathlib.Core.Logic.{by-cases}
 use Prim.Native.Nat.{ℕ, zero, suc, _+_, _-_, _*_, _/_, _%_, _^_, _≤_, _<_, zero-le}
-use native.Mathlib.Nat.{le-refl, lt-of-lt-of-le, mod-lt, mod-one, mod-self, mod-eq-of-lt, div-self, div-eq-of-lt, div-eq-of-lt-le, one-mul, pow-succ', two-pow-succ}
+use native.Mathlib.Nat.{le-refl, lt-of-lt-of-le, lt-of-le-of-lt, mod-lt, mod-one, mod-self, mod-eq-of-lt, div-self, div-eq-of-lt, div-eq-of-lt-le, one-mul, pow-succ', two-pow-succ}
 use native.Mathlib.Decide.{le-ind, decLt}
 use native.Mathlib.Numerals.{one-add}
 use native.Mathlib.Omega.{arith}
 use lib.Arith.{digits-lt}
-use lib.Bits.{bitAnd, bitOr, and-shr, and-mod, and-lt, or-shr, or-mod, or-lt, or-shifted-r}
+use lib.Bits.{bitAnd, bitOr, and-le-l, and-shr, and-mod, and-lt, or-shr, or-mod, or-lt, or-shifted-r}
 use lib.Count.{ones, ones-cat, leadingZeros, leading-top}
 use lib.Dec.{eqb, lit<}
 use lib.Pow.{pow-pos, pow-mono, pow-lt, high, low, field, mod-pow-add, mod-mod-pow}
@@ -183,6 +183,10 @@ unfolding word
 word-fill p zero = refl
 word-fill p (suc n) = fill-step (p n) (word p n) (word (λ i. not (p i)) n) (2 ^ n) (word-fill p n) ∙ sym (two-pow-succ n)
 
+-- the word of every number, and its part that another word leaves: `all & !a`
+pub word-all : (n : ℕ) → word (λ i. true) n ≡ 2 ^ n - 1
+word-all n = omega (arith, word-fill (λ i. true) n, word-none {p = λ i. false} n (λ i l. refl))
+
 pub bit-not : {a w i : ℕ} → a < 2 ^ w → i < w → bitAt (2 ^ w - 1 - a) i ≡ not (bitAt a i)
 bit-not {a} {w} {i} h l =
     let rest : 2 ^ w - 1 - a ≡ word (λ j. not (bitAt a j)) w = omega (arith, word-bits w h, word-fill (bitAt a) w) in
@@ -193,6 +197,12 @@ pub bit-minus : (w : ℕ) {a b : ℕ} → a < 2 ^ w → b < 2 ^ w → (i : ℕ) 
 bit-minus w {a} {b} ha hb i =
     bit-and a (2 ^ w - 1 - b) i
     ∙ by-cases (decLt i w) (λ (l : i < w). rw (bit-not hb l)) (λ (g : ¬ (i < w)). rw (bit-high {i = i} ha (omega arith)))
+
+pub word-not : (p : ℕ → Bool) (n w : ℕ) → n ≤ w → bitAnd (word (λ i. true) n) (2 ^ w - 1 - word p n) ≡ word (λ i. not (p i)) n
+word-not p n w h =
+    let wide : (q : ℕ → Bool) → word q n < 2 ^ w = λ q. lt-of-lt-of-le (word-lt q n) (pow-mono h) in
+    bits-ext n (lt-of-le-of-lt (and-le-l _ _) (word-lt (λ i. true) n)) (word-lt _ n)
+    (λ i l. bit-minus w (wide (λ i. true)) (wide p) i ∙ ap₂ (λ (a b : Bool). a && not b) (bit-word (λ i. true) l) (bit-word p l) ∙ sym (bit-word (λ j. not (p j)) l))
 
 -- ---- counts of bits
 

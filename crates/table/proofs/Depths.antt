@@ -1,14 +1,13 @@
 -- Depths, entry by entry: an entry's depth follows from those of its references, and a reference to a later entry, which
 -- reads as falsum, has depth 0, as has a place in a list that is not yet filled. Each entry is at most one deeper than those before it.
-use mathlib.Core.Path.{_≡_, refl, sym, ap, ap₂, _∙_}
-use mathlib.Core.Logic.{⊎-elim}
+use mathlib.Core.Path.{_≡_, sym, ap, _∙_}
 use mathlib.Core.List.{List}
 use Prim.Native.Nat.{ℕ, zero, suc, _<_, _≤_, zero-le}
-use native.Mathlib.Nat.{eq-or-lt-of-le, le-of-suc-le-suc, le-trans, not-suc-le-zero, lt-suc-self, le-refl}
+use native.Mathlib.Nat.{le-trans, not-suc-le-zero, lt-suc-self}
 use native.Mathlib.Decide.{decLt}
 use native.Mathlib.Omega.{arith}
 use lib.ListN.{length, getD, replicate, set}
-use lib.Seq.{getD-set-same, getD-set-other}
+use Rattle.packed.proofs.Filling.{fill-below, fill-behind}
 use Rattle.packed.proofs.Zeros.{zeros-at}
 use Rattle.semantics.specs.Formula.{Formula, falsum, depth}
 use Rattle.table.specs.declared.entry.Entry.{Entry}
@@ -51,8 +50,8 @@ module _ (entry : ℕ → Entry) where
 
     pub depths-next : n < length depths → Depths entry (suc n) (set depths n (depthAt entry n))
     depths-next room = record {
-      below = λ i h. ⊎-elim (λ (e : i ≡ n). rw e (getD-set-same depths n _ 0 room)) (λ (l : i < n). getD-set-other depths n i _ 0 (omega arith) ∙ held .below i l) (eq-or-lt-of-le (le-of-suc-le-suc h));
-      behind = λ i h. getD-set-other depths n i _ 0 (omega arith) ∙ held .behind i (omega arith) }
+      below = fill-below (depthAt entry) (λ i. 0) n depths (held .below) (held .behind) room;
+      behind = fill-behind (depthAt entry) (λ i. 0) n depths (held .below) (held .behind) }
 
 pub depths-none : (entry : ℕ → Entry) (n : ℕ) → Depths entry 0 (replicate n 0)
 depths-none entry n = record { below = λ i h. absurd (not-suc-le-zero h); behind = λ i h. zeros-at n i }

@@ -42,11 +42,10 @@ pub earlier-past : (entry : ℕ → Entry) (n j : ℕ) → n ≤ j → earlier e
 earlier-past entry n j h = List·getD-eq-default (formulas entry n) falsum (rw length-formulas h)
 
 module _ (s : Structure) (w : ℕ) where
-  -- document 01's table of kinds, read as truth at w: t j v is the truth of entry j at v
-  abbrev pub truthOf : (ℕ → ℕ → Bool) → Entry → Bool
-  truthOf t e =
-      getD
-      (true
+  -- document 01's table of kinds, read as truth at w, a row a kind: t j v is the truth of entry j at v
+  abbrev pub truthRows : (ℕ → ℕ → Bool) → Entry → List Bool
+  truthRows t e =
+      true
       ∷ false
       ∷ s .holds (e .name) w
       ∷ not (t (e .first) w)
@@ -54,14 +53,20 @@ module _ (s : Structure) (w : ℕ) where
       ∷ (t (e .first) w || t (e .second) w)
       ∷ leb (e .grade) (successors s (e .name) w (t (e .first)))
       ∷ leb (successors s (e .name) w (t (e .first))) (e .grade)
-      ∷ [])
-      (e .kind)
-      false
+      ∷ []
+
+  abbrev pub truthOf : (ℕ → ℕ → Bool) → Entry → Bool
+  truthOf t e = getD (truthRows t e) (e .kind) false
 
   -- the rules, one for each kind
   pub truth-formulaOf : (ref : ℕ → Formula) (e : Entry) → truth s (formulaOf ref e) w ≡ truthOf (λ j. truth s (ref j)) e
   unfolding formulaOf kinds truth
   truth-formulaOf ref e = sym (List·getD-map (λ (φ : Formula). truth s φ w) (kinds ref e) (e .kind) falsum)
+
+  -- the rule of a known kind
+  pub truth-of-kind : (ref : ℕ → Formula) (e : Entry) (k : ℕ) → e .kind ≡ k
+    → truth s (formulaOf ref e) w ≡ getD (truthRows (λ j. truth s (ref j)) e) k false
+  truth-of-kind ref e k h = truth-formulaOf ref e ∙ ap (λ (k : ℕ). getD (truthRows (λ j. truth s (ref j)) e) k false) h
 
 -- document 01's words on depth are those of the formulas
 pub depth-formulaOf : (ref : ℕ → Formula) (e : Entry) → depth (formulaOf ref e) ≡ depthOf (depth (ref (e .first))) (depth (ref (e .second))) (e .kind)
