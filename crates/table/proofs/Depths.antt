@@ -1,6 +1,6 @@
 -- Depths, entry by entry: an entry's depth follows from those of its references, and a reference to a later entry, which
 -- reads as falsum, has depth 0, as has a place in a list that is not yet filled. Each entry is at most one deeper than those before it.
-use mathlib.Core.Path.{_≡_, refl, sym, ap, ap₂, _∙_}
+use mathlib.Core.Path.{_≡_, sym, ap, ap₂, _∙_}
 use mathlib.Core.Logic.{⊎-elim}
 use mathlib.Core.List.{List}
 use Prim.Native.Nat.{ℕ, zero, suc, _<_, _≤_, zero-le}
