@@ -1,7 +1,9 @@
 // The calls open to others, in the order of use. Each refuses bad input instead of requiring good input, and its contract
 // fixes the result, the refusal and all that was lent, in the words of specs/ of the crates below.
 ghost use mathlib.Core.Path.{_≡_};
+ghost use lib.ListN.{length};
 ghost use Rattle.table.specs.Check.{tableVerdict};
+ghost use Rattle.truth_table.specs.Board.{boardVerdict, BoardAfter};
 
 use faults::Verdict;
 
@@ -10,4 +12,14 @@ pub fn check_table(table: &[u8]) -> Verdict
     ensures { λ r. ⌜ r ≡ tableVerdict (now (table .entry)) ⌝ }
 {
     table::check::check(table)
+}
+
+// Writes the truth table of a packed structure (document 01: the board), one word for each entry of the table: bit w is 1
+// exactly when the entry is true at the world w. Refuses with a number from 1 to 8, or 10 for too few words, and then
+// leaves the words as they were; the words behind the entries stay as they were in any case.
+pub fn board(table: &[u8], structure: &[u8], words: &mut [u64]) -> Verdict
+    ensures { λ r. ⌜ (r ≡ boardVerdict (now (table .entry)) (now (structure .entry)) (length (now (words .entry))))
+        × BoardAfter (now (table .entry)) (now (structure .entry)) (now (words .entry)) r (now (words .exit)) ⌝ }
+{
+    truth_table::board(table, structure, words)
 }

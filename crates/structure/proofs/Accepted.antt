@@ -1,6 +1,6 @@
 -- What an accepted structure is known to meet: the worlds that its facts and links name are below its number of worlds.
 use mathlib.Core.Path.{_≡_}
-use mathlib.Core.Bool.{Bool, false}
+use mathlib.Core.Bool.{false}
 use mathlib.Core.List.{List}
 use Prim.Native.Nat.{ℕ, _<_}
 use lib.Dec.{leb}

@@ -1,5 +1,5 @@
 -- What records state, as words. One record more sets the bits that it states: that of one world, or none.
-use mathlib.Core.Path.{_≡_, refl, sym, ap, ap₂, _∙_}
+use mathlib.Core.Path.{_≡_, refl, ap₂, _∙_}
 use mathlib.Core.Bool.{Bool, false, _&&_, and-true, and-false, or-false}
 use mathlib.Core.Logic.{by-cases}
 use mathlib.Core.List.{List}
@@ -63,8 +63,9 @@ module _ (row : ℕ → Record) (relation : ℕ) where
       by-cases (ℕ-discrete (r .kind) 2) (λ (k : r .kind ≡ 2). rw (ne-eqb v (r .world) (omega (arith, within .link k .0)), and-false))
       (λ (n : ¬ (r .kind ≡ 2)). rw (ne-eqb (r .kind) 2 n))
 
-  pub successor-words : (words : List ℕ) (n : ℕ) → ((i : ℕ) → i < n → Within (row i) (worldsOf row)) → ((v : ℕ) → getD words v 0 ≡ linksFrom v n)
-    → SuccessorWords (stated row n) relation words
+  -- the words of all records, none of which names a world that is not there
+  pub successor-words : (words : List ℕ) (n : ℕ) → ((i : ℕ) → i < n → Within (row i) (worldsOf row))
+    → ((v : ℕ) → getD words v 0 ≡ linksFrom v n) → SuccessorWords (stated row n) relation words
   unfolding stated
   successor-words words n within held = record {
     below = λ v l. held v;

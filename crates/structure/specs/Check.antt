@@ -26,7 +26,7 @@ zeroBitSet r =
     (r .kind)
     true)
 
--- 7: record i stands in a wrong place, is of kind 3, or has a zero bit that is 1
+-- 7: record i stands in a wrong place, is of kind 3, the greatest that two bits spell, or has a zero bit that is 1
 abbrev pub recordFaulty : Record → ℕ → Bool
 recordFaulty r i = misplaced r i || leb 3 (r .kind) || zeroBitSet r
 
@@ -42,7 +42,7 @@ recordVerdict r i worlds = andThen (refuseIf (recordFaulty r i) BadRecord) (refu
 abbrev pub recordsVerdict : (ℕ → Record) → ℕ → Verdict
 recordsVerdict row n = each (λ i. recordVerdict (row i) i (worldsOf row)) n
 
--- 6
+-- 6: length 0, over 3,072 bytes or not a multiple of 3
 abbrev pub lengthFaulty : ℕ → Bool
 lengthFaulty n = eqb n 0 || ltb 3072 n || not (eqb (n % 3) 0)
 

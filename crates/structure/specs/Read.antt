@@ -19,16 +19,16 @@ some p (suc n) = some p n || p n
 abbrev pub statesFact : Record → ℕ → ℕ → Bool
 statesFact r p w = eqb (r .kind) 1 && eqb (r .name) p && eqb w (r .world)
 
--- kind 2: a link of the relation p leads from v to w
+-- kind 2: a link of the relation leads from v to w
 abbrev pub statesLink : Record → ℕ → ℕ → ℕ → Bool
-statesLink r p v w = eqb (r .kind) 2 && eqb (r .name) p && eqb v (r .world) && eqb w (r .to)
+statesLink r relation v w = eqb (r .kind) 2 && eqb (r .name) relation && eqb v (r .world) && eqb w (r .to)
 
 -- the structure that the first n records state. A fact that no record states does not hold; a repeated record adds nothing
 unfoldable pub stated : (ℕ → Record) → ℕ → Structure
 stated row n = record {
   worlds = worldsOf row;
   holds = λ p w. some (λ i. statesFact (row i) p w) n;
-  links = λ p v w. some (λ i. statesLink (row i) p v w) n }
+  links = λ relation v w. some (λ i. statesLink (row i) relation v w) n }
 
 -- the structure that the bytes pack
 abbrev pub structureOf : List ℕ → Structure

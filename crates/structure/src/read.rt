@@ -37,14 +37,14 @@ pub fn fact_word(bytes: &[u8], name: u32) -> u64
     ensures { λ r. ⌜ r ≡ word (structureOf (now (bytes .entry)) .holds name) (structureOf (now (bytes .entry)) .worlds) ⌝ }
 {
     let n = bytes.len() / 3;
-    let mut at: u64 = 0;
+    let mut held: u64 = 0;
     let mut i = 0;
     while i < n {
         let r = record::record_at(bytes, i);
-        at |= one_world(r, 1, name, r.world);
+        held |= one_world(r, 1, name, r.world);
         i += 1;
     }
-    at
+    held
 }
 
 // For each world the worlds that links of a relation lead to from it, and 0 behind the worlds.

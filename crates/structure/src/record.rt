@@ -1,5 +1,6 @@
 // Records: the packed 24-bit word, and its fields.
 ghost use mathlib.Core.Path.{_≡_};
+ghost use Prim.Native.Nat.{_<_};
 ghost use Rattle.structure.specs.Record.{recordOf, tripleAt, recordAt};
 
 use packed::byte_at;
@@ -41,9 +42,9 @@ fn triple_at(bytes: &[u8], i: usize) -> u32
     byte_at(bytes, at) * 65536 + byte_at(bytes, at + 1) * 256 + byte_at(bytes, at + 2)
 }
 
-// Record i of a structure.
+// Record i of a structure. Its worlds have six bits.
 pub fn record_at(bytes: &[u8], i: usize) -> Record
-    ensures { λ r. ⌜ r ≡ recordAt (now (bytes .entry)) i ⌝ }
+    ensures { λ r. ⌜ (r ≡ recordAt (now (bytes .entry)) i) × (r .world < 64) × (r .to < 64) ⌝ }
 {
     Record::unpack(triple_at(bytes, i))
 }

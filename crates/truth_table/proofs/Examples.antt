@@ -10,7 +10,7 @@ use Rattle.structure.specs.Record.{tripleAt}
 use Rattle.structure.specs.Read.{some, stated, structureOf}
 
 -- the build of document 01: three worlds, facts and links, one link stated twice
-build : Structure
+pub build : Structure
 build =
     structureOf
     (0x02 ∷ 0x00 ∷ 0x00
@@ -23,14 +23,14 @@ build =
     ∷ [])
 
 -- a description and its word on the board
-record Example : Type 0 where
-  formula : Formula
-  board : ℕ
+pub record Example : Type 0 where
+  pub formula : Formula
+  pub board : ℕ
 
 example : Formula → ℕ → Example
 example φ w = record { formula = φ; board = w }
 
-examples : List Example
+pub examples : List Example
 examples =
     example (atLeast 2 7 (fact 1)) 1
     ∷ example (atLeast 3 7 (fact 1)) 0

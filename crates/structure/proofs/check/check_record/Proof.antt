@@ -1,5 +1,5 @@
 -- `check_record` meets its contract: its two tests are those of the definition, in its order.
-use mathlib.Core.Path.{_≡_, sym, _∙_}
+use mathlib.Core.Path.{sym, _∙_}
 use borrow.Author.Needs.{needs}
 use Rattle.structure.proofs.check.check_record.Statement.{statement}
 use Rattle.structure.proofs.check.check_record.Tie as tie

@@ -1,21 +1,23 @@
 -- `is_faulty` meets its contract: each arm of the match is a row of the definition.
-use mathlib.Core.Path.{_≡_, refl, ap, sym, _∙_}
+use mathlib.Core.Path.{_≡_, refl, _∙_}
 use mathlib.Core.Bool.{Bool, true, false, not, _&&_, _||_, Bool·beq}
-use Prim.Native.Nat.{ℕ, zero, suc, _≤_}
+use Prim.Native.Nat.{ℕ, zero, suc}
 use native.Mathlib.Omega.{arith}
 use lib.Bits.{bitOr, or-zero-l, or-add-and, and-le-r}
 use lib.Dec.{eqb, eqb·suc-zero}
-use borrow.Author.Tests.{ne-eqb, le-leb, not-false}
+use borrow.Author.Tests.{ne-eqb, le-leb}
 use Rattle.structure.specs.Check.{misplaced}
 use Rattle.structure.proofs.check.is_faulty.Statement.{statement}
 use Rattle.structure.proofs.check.is_faulty.Tie as tie
 
+-- one of two tests holds, and the other not, where they differ
 one-only : (a b : Bool) → (a && not b) || (not a && b) ≡ not (Bool·beq a b)
 one-only true true = refl
 one-only true false = refl
 one-only false true = refl
 one-only false false = refl
 
+-- two fields have no bit where neither has
 or-zero : (a b : ℕ) → eqb (bitOr a b) 0 ≡ eqb a 0 && eqb b 0
 or-zero zero b = rw or-zero-l
 or-zero (suc a) b = rw eqb·suc-zero (ne-eqb (bitOr (suc a) b) 0 (λ e. omega (arith, e, or-add-and (suc a) b, and-le-r (suc a) b)))

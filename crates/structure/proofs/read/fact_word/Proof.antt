@@ -1,11 +1,9 @@
 -- `fact_word` meets its contract. The invariant: the word is that of what the records passed state.
-use mathlib.Core.Path.{_≡_, sym, ap, ap₂, _∙_}
-use mathlib.Core.Bool.{true, _&&_}
-use Prim.Native.Nat.{_-_, _≤_, _<_}
+use mathlib.Core.Path.{_≡_, sym, ap₂, _∙_}
+use Prim.Native.Nat.{_-_, _≤_}
 use native.Mathlib.Numerals.{add-one}
 use native.Mathlib.Omega.{arith}
 use lib.Bits.{bitOr}
-use lib.Dec.{eqb}
 use borrow.Author.Needs.{needs}
 use Rattle.sets.specs.Word.{word}
 use Rattle.structure.specs.Record.{recordAt, records, worldsOf}
@@ -16,21 +14,15 @@ use Rattle.structure.proofs.read.fact_word.Statement.{statement}
 use Rattle.structure.proofs.read.fact_word.Tie as tie
 
 abbrev Inv-loop : tie.InvT-loop
-Inv-loop bytes name n at₀ i₀ at i =
+Inv-loop bytes name n held₀ i₀ held i =
     let row = recordAt bytes in
-    (i ≤ n) × (at ≡ someWord (λ j. statesFact (row j) name) i (worldsOf row))
+    (i ≤ n) × (held ≡ someWord (λ j. statesFact (row j) name) i (worldsOf row))
 
 abbrev μ-loop : tie.MeasureT-loop
-μ-loop bytes name n at₀ i₀ at i = n - i
+μ-loop bytes name n held₀ i₀ held i = n - i
 
 loop-holds : tie.Need-loop-holds Inv-loop μ-loop
 loop-holds c = (search needs, sym (some-word-none _ _))
-
-one-world-requires : tie.Need-one-world-requires Inv-loop μ-loop
-one-world-requires c κs =
-    let r = recordAt (c .before .before .before .before .args .bytes .now) (c .before .before .loop .i) in
-    let e : c .record-at .result .world ≡ r .world = cc in
-    omega arith
 
 -- the call gives the word of what record i states
 here : (c : tie.After-one-world Inv-loop μ-loop)
@@ -41,7 +33,7 @@ here c =
     let s = c .before .before .before .before .before in
     let bytes = s .args .bytes .now in
     let within = accepted bytes (s .pre) (c .before .before .before .loop .i) (search needs) in
-    rw (c .before .record-at .ensures) at (c .one-world .ensures) (worldsOf (recordAt bytes)) (within .fact)
+    rw (c .before .record-at .ensures .0) at (c .one-world .ensures) (worldsOf (recordAt bytes)) (within .fact)
 
 loop-again : tie.Need-loop-again Inv-loop μ-loop
 loop-again c =
@@ -62,7 +54,7 @@ fact-word-spec =
     μ-loop
     loop-holds
     (λ c κs. search needs)
-    one-world-requires
+    (λ c κs. search needs)
     (λ c. search needs)
     (λ c. search needs)
     loop-again

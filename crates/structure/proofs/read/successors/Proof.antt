@@ -1,13 +1,12 @@
 -- `successors` meets its contract. The invariant: each word is that of the links that the records passed state.
-use mathlib.Core.Path.{_≡_, refl, sym, ap, _∙_}
-use Prim.Native.Nat.{ℕ, _-_, _≤_, _<_}
+use mathlib.Core.Path.{_≡_, refl, sym, _∙_}
+use Prim.Native.Nat.{ℕ, _-_, _≤_}
 use native.Mathlib.Numerals.{add-one}
 use native.Mathlib.Omega.{arith}
 use lib.ListN.{length, getD, length-set}
 use borrow.Author.Needs.{needs}
 use Rattle.packed.proofs.Zeros.{zeros-at}
 use Rattle.structure.specs.Record.{recordAt, records, worldsOf}
-use Rattle.structure.specs.Read.{stated}
 use Rattle.structure.proofs.Accepted.{accepted}
 use Rattle.structure.proofs.Stated.{some-word-none, linksFrom, links-more, successor-words}
 use Rattle.structure.proofs.read.successors.Statement.{statement}
@@ -23,20 +22,12 @@ abbrev μ-loop : tie.MeasureT-loop
 loop-holds : tie.Need-loop-holds Inv-loop μ-loop
 loop-holds c = (search needs, refl, λ v. zeros-at 64 v ∙ sym (some-word-none _ _))
 
--- the worlds of a record are numbers below 64
-below : (c : tie.After-record-at Inv-loop μ-loop) → (c .record-at .result .world < 64) × (c .record-at .result .to < 64)
-below c =
-    let r = recordAt (c .before .before .before .before .args .bytes .now) (c .before .before .loop .i) in
-    let from : c .record-at .result .world ≡ r .world = cc in
-    let to : c .record-at .result .to ≡ r .to = cc in
-    omega arith
-
 loop-again : tie.Need-loop-again Inv-loop μ-loop
 loop-again c =
     let s = c .before .before .before .before .before .before in
     let row = recordAt (s .args .bytes .now) in
     let l = c .before .before .before .before .loop in
-    let read = c .before .before .record-at .ensures in
+    let read = c .before .before .record-at .ensures .0 in
     let within = accepted (s .args .bytes .now) (s .pre) (l .i) (search needs) in
     let adds = rw read at (c .one-world .ensures) (worldsOf row) (λ k. within .link k .1) in
     (search needs, simp length-set (l .inv .1), rw (add-one (l .i), read) (links-more row (s .args .relation) (l .to) (l .i) _ (l .inv .2) (omega arith) adds))
@@ -56,10 +47,10 @@ successors-spec =
     loop-holds
     (λ c κs. search needs)
     (λ c. search needs)
-    (λ c κs. below (c .before) .1)
-    (λ c. omega (arith, below (c .before .before)))
-    (λ c. below (c .before .before) .0)
-    (λ c. below (c .before .before) .0)
+    (λ c κs. search needs)
+    (λ c. search needs)
+    (λ c. search needs)
+    (λ c. search needs)
     (λ c. search needs)
     (λ c. search needs)
     loop-again
