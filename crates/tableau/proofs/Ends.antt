@@ -1,9 +1,9 @@
 -- The search starts open where there is a solution, and what it finds is one.
 -- Why: a row's promises lie below w, so they are the bits of a number below 2 ^ w, and the rows of a solution are slots; each can be left for the
 -- extension. In the end the slots are rows.
-use mathlib.Core.Path.{_≡_, refl, sym, ap, _∙_, fun-ext}
+use mathlib.Core.Path.{_≡_, refl, sym, _∙_, fun-ext}
 use mathlib.Core.Logic.{⊎-elim, by-cases}
-use mathlib.Core.Bool.{Bool, true, false, _||_, not-eq-not}
+use mathlib.Core.Bool.{Bool, true, false, not-eq-not}
 use mathlib.Core.List.{List, [], _∷_, map}
 use Prim.Native.Nat.{ℕ, _^_, _<_, _≤_}
 use native.Mathlib.Decide.{decLt}
@@ -12,8 +12,8 @@ use lib.Dec.{eqb}
 use Rattle.sets.specs.Word.{bitAt, word}
 use Rattle.sets.proofs.Words.{word-lt, bit-word, bit-word-high}
 use Rattle.tableau.specs.Wants.{wanted}
-use Rattle.tableau.specs.Counting.{bound, need, limit, speaks, Row, All}
-use Rattle.tableau.specs.Search.{Slot, taken, asRow, rowsOf, Each, Problem, Asks, Met, Kept, Solved, FitRow, Fit, Ext, Open}
+use Rattle.tableau.specs.Counting.{bound, need, speaks, Row, All}
+use Rattle.tableau.specs.Search.{Slot, taken, rowsOf, Each, Problem, Met, Kept, Solvable, FitRow, Fit, Ext, Open}
 use Rattle.tableau.specs.Search.Open.{next}
 use Rattle.tableau.proofs.Tests.{both-parts, one-of}
 use Rattle.tableau.proofs.Bounds.{bound-cases}
@@ -43,7 +43,7 @@ module _ (P : Problem) (below : (b : Bool) (i : ℕ) → wanted (P .yes) (P .no)
   all-usable [] fit = tt
   all-usable (s ∷ slots) fit = (record { within = fit .0 .within; feasible = fit .0 .feasible }, all-usable slots (fit .1))
 
-  pub found : {slots : List Slot} → Each (Fit P) slots → Met P slots → Kept P slots → Solved P
+  pub found : {slots : List Slot} → Each (Fit P) slots → Met P slots → Kept P slots → Solvable P
   found {slots} fit m k = record {
     rows = rowsOf slots;
     usable = all-usable slots fit;
@@ -69,7 +69,7 @@ module _ (P : Problem) (below : (b : Bool) (i : ℕ) → wanted (P .yes) (P .no)
     ext-left [] us e = e
     ext-left (row ∷ rows) us e = ext-left rows (us .1) (ext-inserted (2 ^ w) (word-lt (row .promises) w) (fit-coded (us .0)) e)
 
-    pub start : Solved P → Open P [] (2 ^ w)
+    pub start : Solvable P → Open P [] (2 ^ w)
     start known =
         let same = rows-coded (known .rows) (known .usable) in
         let met : Met P (map (coded w) (known .rows)) = record { met = λ i a. rw same (known .met i (a .bounds) (a .here)) } in

@@ -1,18 +1,17 @@
 -- How slots can be extended to a solution depends only on what they serve and spend: more served, up to what is needed, and less spent is never worse.
 -- Why: the same sets extend both, and at the end every bound is met and kept by the better one too.
 use mathlib.Core.Path.{_≡_, refl, sym}
-use mathlib.Core.Logic.{_⊎_, ⊎-elim, ⊎-map, by-cases}
+use mathlib.Core.Logic.{by-cases}
 use mathlib.Core.Bool.{Bool, true, false, not}
-use mathlib.Core.List.{List, [], _∷_}
-use Prim.Native.Nat.{ℕ, zero, suc, _+_, _<_, _≤_, min, zero-le}
+use mathlib.Core.List.{List, _∷_}
+use Prim.Native.Nat.{ℕ, zero, suc, _+_, _<_, _≤_, min}
 use native.Mathlib.Decide.{ℕ-discrete}
-use native.Mathlib.Nat.{not-suc-le-zero, le-refl}
+use native.Mathlib.Nat.{not-suc-le-zero}
 use native.Mathlib.Omega.{arith}
 use Rattle.semantics.proofs.Successors.{gain, gain-zero}
 use Rattle.sets.specs.Word.{bitAt}
-use Rattle.table.specs.declared.entry.Entry.{Entry}
-use Rattle.tableau.specs.Counting.{lo, hi, Row, total, served, spent}
-use Rattle.tableau.specs.Search.{Slot, taken, rowsOf, Problem, Asks, Met, Kept, Fit, Ext, Useful}
+use Rattle.tableau.specs.Counting.{lo, total, served, spent}
+use Rattle.tableau.specs.Search.{Slot, taken, rowsOf, Problem, Asks, Met, Kept, Fit, Ext}
 use Rattle.tableau.specs.Search.Ext.{complete, copies}
 
 gain-add : (c : Bool) (k m : ℕ) → gain c (k + m) ≡ gain c k + gain c m
@@ -28,8 +27,7 @@ unfolding total
 none-same b = record { same = λ p. omega (arith, gain-zero (p (bitAt b))) }
 
 same-none : {slots : List Slot} (b : ℕ) → Same slots (taken b 0 ∷ slots)
-unfolding total
-same-none b = record { same = λ p. omega (arith, gain-zero (p (bitAt b))) }
+same-none {slots} b = record { same = λ p. sym (none-same {slots = slots} b .same p) }
 
 swapped-same : {slots : List Slot} (s s′ : Slot) → Same (s ∷ s′ ∷ slots) (s′ ∷ s ∷ slots)
 unfolding total
@@ -62,24 +60,30 @@ module _ {P : Problem} where
   ext-better h (complete m k) = complete (met-better h m) (kept-better h k)
   ext-better h (copies {b = b} m fit e) = copies m fit (ext-better (pushed-better (taken b m) h) e)
 
+  ext-same : {t : ℕ} {slots slots′ : List Slot} → Same slots slots′ → Ext P slots t → Ext P slots′ t
+  ext-same h = ext-better (same-better h)
+
   pub ext-none : {t b : ℕ} {slots : List Slot} → Ext P (taken b 0 ∷ slots) t → Ext P slots t
-  ext-none {b = b} = ext-better (same-better (none-same b))
+  ext-none {b = b} = ext-same (none-same b)
 
   -- slots that are a solution need no extension
   pub ext-done : {slots : List Slot} → Met P slots → Kept P slots → (t : ℕ) → Ext P slots t
   ext-done met kept zero = complete met kept
-  ext-done met kept (suc b) = copies 0 (λ pos. absurd (not-suc-le-zero pos)) (ext-better (same-better (same-none b)) (ext-done met kept b))
+  ext-done met kept (suc b) = copies 0 (λ pos. absurd (not-suc-le-zero pos)) (ext-same (same-none b) (ext-done met kept b))
 
   -- limits that are kept in the end are kept already
-  pub ext-kept : {t : ℕ} {slots : List Slot} → Ext P slots t → Kept P slots
+  pub kept-before : {slots : List Slot} {s : Slot} → Kept P (s ∷ slots) → Kept P slots
   unfolding total
+  kept-before k = record { kept = λ i a. omega (arith, k .kept i a) }
+
+  pub ext-kept : {t : ℕ} {slots : List Slot} → Ext P slots t → Kept P slots
   ext-kept (complete m k) = k
-  ext-kept (copies m fit e) = let more = ext-kept e in record { kept = λ i a. omega (arith, more .kept i a) }
+  ext-kept (copies m fit e) = kept-before (ext-kept e)
 
   -- a slot of a fit set below t can be left for the extension, which has copies of that set at its place in the order
   pub ext-inserted : (t : ℕ) {b m : ℕ} {slots : List Slot} → b < t → Fit P b → Ext P (taken b m ∷ slots) t → Ext P slots t
   ext-inserted zero l fit e = absurd (not-suc-le-zero l)
   ext-inserted (suc c) {b} {m} l fit (copies k ok e) =
       by-cases (ℕ-discrete b c)
-      (λ (at : b ≡ c). copies (k + m) (λ pos. rw (← at) fit) (ext-better (same-better (rw at (joined-same c k m))) e))
-      (λ (off : ¬ (b ≡ c)). copies k ok (ext-inserted c (omega arith) fit (ext-better (same-better (swapped-same (taken c k) (taken b m))) e)))
+      (λ (at : b ≡ c). copies (k + m) (λ pos. rw (← at) fit) (ext-same (rw at (joined-same c k m)) e))
+      (λ (off : ¬ (b ≡ c)). copies k ok (ext-inserted c (omega arith) fit (ext-same (swapped-same (taken c k) (taken b m)) e)))

@@ -31,3 +31,5 @@ pub mod Ends
 pub mod Potential
 -- why its stack stays small
 pub mod Stack
+-- the search step by step
+pub mod Searching

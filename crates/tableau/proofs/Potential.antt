@@ -16,6 +16,10 @@ power-up : {b t : ℕ} → b < t → 258 * 258 ^ b ≤ 258 ^ t
 power-up l = rw pow-succ' at (pow-le-pow-right {n = 258} (lit< tt) l)
 
 module _ (slots : List Slot) (b t : ℕ) where
+  pub potential-skipped : b ≤ t → potential slots b ≤ potential slots t
+  unfolding potential
+  potential-skipped l = omega (arith, pow-le-pow-right {n = 258} (lit< tt) l)
+
   pub potential-tried : b < t → potential slots b < potential slots t
   unfolding potential
   potential-tried l = omega (arith, power-up l, power-pos b)

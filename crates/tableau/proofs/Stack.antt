@@ -10,7 +10,7 @@ use lib.ListN.{length}
 use Rattle.table.specs.declared.entry.Entry.{Entry}
 use Rattle.table.specs.Space.{weight, gradeSum}
 use Rattle.tableau.specs.Counting.{boundKind, lo, total, served}
-use Rattle.tableau.specs.Search.{Slot, rowsOf, Problem, Asks, Lacks, Serving}
+use Rattle.tableau.specs.Search.{Slot, rowsOf, Problem, Lacks, Serving}
 use Rattle.tableau.proofs.Bounds.{bound-cases}
 
 lo-le-weight : (e : Entry) (b : Bool) → e .kind ≡ boundKind b true → lo e ≤ weight e

@@ -11,8 +11,8 @@ use native.Mathlib.Nat.{not-suc-le-zero, zero-lt-suc, lt-suc-self}
 use native.Mathlib.Omega.{arith}
 use Rattle.semantics.proofs.Successors.{gain}
 use Rattle.sets.specs.Word.{bitAt}
-use Rattle.tableau.specs.Counting.{lo, hi, total, served, spent}
-use Rattle.tableau.specs.Search.{Slot, taken, rowsOf, Problem, Asks, Met, Kept, Fit, Ext, Back, Open, Full, Useful}
+use Rattle.tableau.specs.Counting.{lo, total, served, spent}
+use Rattle.tableau.specs.Search.{Slot, taken, rowsOf, Problem, Asks, Met, Kept, Fit, Open, Full, Useful}
 use Rattle.tableau.specs.Search.Ext.{complete, copies}
 use Rattle.tableau.specs.Search.Back.{fewer, earlier}
 use Rattle.tableau.specs.Search.Open.{next, later}
@@ -34,10 +34,6 @@ gain-le false h = zero-le
 
 module _ {P : Problem} {slots : List Slot} where
   -- ---- the limits
-
-  pub kept-before : {s : Slot} → Kept P (s ∷ slots) → Kept P slots
-  unfolding total
-  kept-before h = record { kept = λ i a. omega (arith, h .kept i a) }
 
   module _ {b m : ℕ} where
     pub kept-taken : Kept P slots → Useful P slots b m → Kept P (taken b m ∷ slots)

@@ -1,5 +1,5 @@
--- The search for a solution by one relation. Sets of promises are tried in falling order of their codes, and a set that is taken is put on a stack,
--- with a number of copies. What is left to be found is said by Open; each step of the search keeps it, and the potential falls.
+-- The search for a solution by one relation. Sets of promises are tried in falling order of their codes; one that is taken goes onto a stack of slots,
+-- with a number of copies. Where no set is left to try, the newest slot gives up a copy, and the sets below it are tried anew.
 use mathlib.Core.Path.{_≡_}
 use mathlib.Core.Logic.{_⊎_}
 use mathlib.Core.Bool.{Bool, true, false}
@@ -29,7 +29,7 @@ abbrev pub Each : (ℕ → Type 0) → List Slot → Type 0
 Each P [] = Unit {0}
 Each P (s ∷ slots) = P (s .code) × Each P slots
 
--- The copies read as digits in base 258, and all that the sets below t could still add to them: a digit is 256 at most.
+-- The measure of the search: the copies read as digits, and more than the digits of the sets below t can come to. A digit is 256 at most.
 unfoldable pub load : List Slot → ℕ
 load [] = 0
 load (s ∷ slots) = s .copies * 258 ^ s .code + load slots
@@ -37,7 +37,7 @@ load (s ∷ slots) = s .copies * 258 ^ s .code + load slots
 unfoldable pub potential : List Slot → ℕ → ℕ
 potential slots t = load slots + 258 ^ t
 
--- the needs and limits of one relation, on an entry below n each
+-- the needs and limits of one relation among n entries
 pub record Problem : Type 0 where
   pub entry : ℕ → Entry
   pub n : ℕ
@@ -58,22 +58,22 @@ module _ (P : Problem) where
   pub record Kept (slots : List Slot) : Type 0 where
     pub kept : (i : ℕ) → Asks false i → spent i (rowsOf slots) ≤ hi (P .entry i)
 
-  abbrev pub Solved : Type 0
-  Solved = Solution (P .entry) (P .yes) (P .no) (P .relation)
+  abbrev pub Solvable : Type 0
+  Solvable = Solution (P .entry) (P .yes) (P .no) (P .relation)
 
-  -- the row may stand in a solution; slots of the set with the code b may
+  -- the row may stand in a solution; the set with the code b may
   abbrev pub FitRow : Row → Type 0
   FitRow = Usable (P .entry) (P .yes) (P .no) (P .relation)
 
   abbrev pub Fit : ℕ → Type 0
   Fit b = FitRow (asRow (taken b 0))
 
-  -- The slots become a solution with so many copies of each set below t. Only fit sets have copies.
+  -- With some number of copies of each set below t, the slots are a solution. Only fit sets have copies.
   pub data Ext : List Slot → ℕ → Type 0 where
     complete : {slots : List Slot} → Met slots → Kept slots → Ext slots zero
     copies : {slots : List Slot} {b : ℕ} (m : ℕ) → (0 < m → Fit b) → Ext (taken b m ∷ slots) b → Ext slots (suc b)
 
-  -- so do the slots up to some slot, with fewer copies of that one and some of each set below it
+  -- so are the slots up to some slot, with fewer copies of that one, and some of each set below it
   pub data Back : List Slot → Type 0 where
     fewer : {s : Slot} {before : List Slot} (m : ℕ) → m < s .copies → Ext (taken (s .code) m ∷ before) (s .code) → Back (s ∷ before)
     earlier : {s : Slot} {before : List Slot} → Back before → Back (s ∷ before)
@@ -111,3 +111,10 @@ module _ (P : Problem) where
   abbrev pub Serving : List Slot → Type 0
   Serving [] = Unit {0}
   Serving (s ∷ before) = (0 < s .copies) × Lacks before (s .code) × Serving before
+
+  -- what holds of the search while the sets below t are yet to be tried
+  pub record Searching (slots : List Slot) (t : ℕ) : Type 0 where
+    pub fit : Each Fit slots
+    pub kept : Kept slots
+    pub serving : Serving slots
+    pub left : Solvable → Open slots t
