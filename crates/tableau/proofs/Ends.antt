@@ -12,8 +12,8 @@ use lib.Dec.{eqb}
 use Rattle.sets.specs.Word.{bitAt, word}
 use Rattle.sets.proofs.Words.{word-lt, bit-word, bit-word-high}
 use Rattle.tableau.specs.Wants.{wanted}
-use Rattle.tableau.specs.Counting.{bound, need, speaks, Row, All}
-use Rattle.tableau.specs.Search.{Slot, taken, rowsOf, Each, Problem, Met, Kept, Solvable, FitRow, Fit, Ext, Open}
+use Rattle.tableau.specs.Counting.{bound, need, Row, All}
+use Rattle.tableau.specs.Search.{Slot, taken, rowsOf, Each, Problem, asking, Met, Kept, Solvable, FitRow, Fit, Ext, Open}
 use Rattle.tableau.specs.Search.Open.{next}
 use Rattle.tableau.proofs.Tests.{both-parts, one-of}
 use Rattle.tableau.proofs.Bounds.{bound-cases}
@@ -32,8 +32,8 @@ module _ (P : Problem) (below : (b : Bool) (i : ℕ) → wanted (P .yes) (P .no)
   bound-below : (c : Bool) (i : ℕ) → bound (P .yes) (P .no) (P .entry i) i c ≡ true → i < P .n
   bound-below c i d = let (b, want, k) = bound-cases (P .yes) (P .no) (P .entry i) i c d in below b i want
 
-  speaks-below : (i : ℕ) → speaks (P .yes) (P .no) (P .entry i) i (P .relation) ≡ true → i < P .n
-  speaks-below i h =
+  asking-below : (i : ℕ) → asking P i ≡ true → i < P .n
+  asking-below i h =
       let either = both-parts true (eqb (P .entry i .name) (P .relation)) _ h .1 in
       ⊎-elim (bound-below true i) (bound-below false i) (one-of (need (P .yes) (P .no) (P .entry i) i) _ either)
 
@@ -54,7 +54,7 @@ module _ (P : Problem) (below : (b : Bool) (i : ℕ) → wanted (P .yes) (P .no)
 
   module _ (w : ℕ) (fits : P .n ≤ w) where
     spells : {row : Row} → FitRow P row → bitAt (word (row .promises) w) ≡ row .promises
-    spells {row} u = word-spells w (row .promises) (λ i h. omega (arith, speaks-below i (u .within i h)))
+    spells {row} u = word-spells w (row .promises) (λ i h. omega (arith, asking-below i (u .within i h)))
 
     rows-coded : (rows : List Row) → All (FitRow P) rows → rowsOf (map (coded w) rows) ≡ rows
     unfolding coded

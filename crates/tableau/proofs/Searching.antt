@@ -9,15 +9,10 @@ use Rattle.sets.specs.Word.{bitAt}
 use Rattle.sets.specs.Set.{Within, NextBelow}
 use Rattle.sets.proofs.Submasks.{within-le}
 use Rattle.tableau.specs.Wants.{wanted}
-use Rattle.tableau.specs.Counting.{speaks}
-use Rattle.tableau.specs.Search.{Slot, taken, Problem, Met, Solvable, Fit, Open, Useful, Searching}
+use Rattle.tableau.specs.Search.{Slot, taken, Problem, asking, Met, Solvable, Fit, Open, Useful, Searching}
 use Rattle.tableau.proofs.Ends.{start, found}
 use Rattle.tableau.proofs.Extend.{kept-before}
 use Rattle.tableau.proofs.Steps.{kept-none, kept-taken, kept-lowered, open-taken, open-dropped, open-useless, open-unfit, open-skipped, open-lowered, open-never}
-
--- does entry i ask for anything
-abbrev pub asking : Problem → ℕ → Bool
-asking P i = speaks (P .yes) (P .no) (P .entry i) i (P .relation)
 
 module _ {P : Problem} {slots : List Slot} where
   -- only what is left to be tried changes

@@ -7,7 +7,7 @@ use mathlib.Core.List.{List, [], _∷_, map}
 use Prim.Native.Nat.{ℕ, zero, suc, _+_, _*_, _^_, _<_, _≤_}
 use Rattle.sets.specs.Word.{bitAt}
 use Rattle.table.specs.declared.entry.Entry.{Entry}
-use Rattle.tableau.specs.Counting.{bound, lo, hi, Row, served, spent, Usable, Solution}
+use Rattle.tableau.specs.Counting.{bound, speaks, lo, hi, Row, served, spent, Usable, Solution}
 
 -- so many successors that promise the set with this code
 pub record Slot : Type 0 where
@@ -46,7 +46,11 @@ pub record Problem : Type 0 where
   pub relation : ℕ
 
 module _ (P : Problem) where
-  -- entry i is a need (c true) or a limit (c false)
+  -- is entry i a need or a limit
+  abbrev pub asking : ℕ → Bool
+  asking i = speaks (P .yes) (P .no) (P .entry i) i (P .relation)
+
+  -- it is a need (c true); it is a limit (c false)
   pub record Asks (c : Bool) (i : ℕ) : Type 0 where
     pub inside : i < P .n
     pub bounds : bound (P .yes) (P .no) (P .entry i) i c ≡ true
