@@ -4,7 +4,7 @@ ghost use mathlib.Core.Logic.{_↔_};
 ghost use mathlib.Core.Bool.{true};
 ghost use Prim.Native.Nat.{_<_};
 ghost use Rattle.semantics.specs.Structure.{count};
-ghost use Rattle.sets.specs.Set.{member, nothing, added, removed, either, both, butNot, HighestOf};
+ghost use Rattle.sets.specs.Set.{member, nothing, added, removed, either, both, butNot, HighestOf, Within, code, BelowOf};
 
 // Bit i is set where i is in the set.
 pub struct Set {
@@ -14,6 +14,12 @@ pub struct Set {
 // The greatest number of a set, if it has any.
 pub enum Highest {
     At(usize),
+    Nothing,
+}
+
+// The set that comes next below another, if any does.
+pub enum Below {
+    At(Set),
     Nothing,
 }
 
@@ -119,6 +125,20 @@ impl Set {
             Highest::Nothing
         } else {
             Highest::At((63 - u64::leading_zeros(bits)) as usize)
+        }
+    }
+
+    // Of the sets within another one, as this set is, the one that comes next below it in the order of their codes.
+    pub fn below(self, within: Set) -> Below
+        requires { ⌜ Within (member self) (member within) ⌝ }
+        ensures { λ r. ⌜ BelowOf (member within) (code self) r ⌝ }
+    {
+        let b = self.bits;
+        let c = within.bits;
+        if b == 0 {
+            Below::Nothing
+        } else {
+            Below::At(Set { bits: (b - 1) & c })
         }
     }
 }

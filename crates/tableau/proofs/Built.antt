@@ -15,7 +15,7 @@ use Rattle.tableau.proofs.Tests.{both-parts}
 use Rattle.tableau.proofs.Rules.{truth-of-kind}
 use Rattle.tableau.proofs.Closure.{Elementary, is-fact, is-least, is-most, is-pending, closure}
 use Rattle.tableau.proofs.Bounds.{bound-made, bound-cases, bound-speaks, fits-truth}
-use Rattle.tableau.proofs.Search.{any, any-found, found-any, above}
+use Rattle.tableau.proofs.Finite.{any, any-found, found-any, above}
 use Rattle.tableau.proofs.Items.{itemsBelow, items-fit}
 
 -- with a solution for each relation that a need or limit speaks of there is one for every relation: no rows for any other

@@ -16,8 +16,20 @@ pub mod Promises
 -- from a world to a solution for every relation
 pub mod Solved
 -- finite search
-pub mod Search
+pub mod Finite
 -- from rows to the items of a root
 pub mod Items
 -- from solutions to a world
 pub mod Built
+-- how slots can be extended to a solution
+pub mod Extend
+-- what each step of the search keeps
+pub mod Steps
+-- from a solution to the search, and back
+pub mod Ends
+-- why the search ends
+pub mod Potential
+-- why its stack stays small
+pub mod Stack
+-- the search step by step
+pub mod Searching

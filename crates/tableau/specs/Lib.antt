@@ -3,3 +3,5 @@
 pub mod Wants
 -- needs, limits, promises, rows
 pub mod Counting
+-- the search for a solution
+pub mod Search
