@@ -29,13 +29,13 @@ abbrev pub Each : (ℕ → Type 0) → List Slot → Type 0
 Each P [] = Unit {0}
 Each P (s ∷ slots) = P (s .code) × Each P slots
 
--- The measure of the search: the copies read as digits, and more than the digits of the sets below t can come to. A digit is 256 at most.
+-- The measure of the search: the copies read as digits, and more than the digits of the sets below t can come to. A digit is 4096 at most.
 unfoldable pub load : List Slot → ℕ
 load [] = 0
-load (s ∷ slots) = s .copies * 258 ^ s .code + load slots
+load (s ∷ slots) = s .copies * 4098 ^ s .code + load slots
 
 unfoldable pub potential : List Slot → ℕ → ℕ
-potential slots t = load slots + 258 ^ t
+potential slots t = load slots + 4098 ^ t
 
 -- the needs and limits of one relation among n entries
 pub record Problem : Type 0 where
@@ -109,7 +109,7 @@ module _ (P : Problem) where
     pub enough : Full slots b m ⊎ ((i : ℕ) → Asks true i → bitAt b i ≡ true → lo (P .entry i) ≤ served i (rowsOf slots) + m)
     -- some need has a use for one
     pub serves : 0 < m → Lacks slots b
-    pub small : m ≤ 256
+    pub small : m ≤ 4096
 
   -- each slot has copies, and serves a need that those before it leave unmet
   abbrev pub Serving : List Slot → Type 0

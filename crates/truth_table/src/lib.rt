@@ -11,15 +11,9 @@ ghost use Rattle.truth_table.specs.Board.{truthWord, Filled, boardVerdic
 
 use faults::Fault;
 use faults::Verdict;
+use packed::word_at;
 
 pub mod entry_word;
-
-// The word at a place, 0 past the end.
-fn word_at(words: &[u64], i: usize) -> u64
-    ensures { λ r. ⌜ r ≡ getD (now (words .entry)) i 0 ⌝ }
-{
-    if i < words.len() { words[i] } else { 0 }
-}
 
 // The word of entry i, where the words before it are there already: what an entry refers to stands before it.
 fn next_word(table: &[u8], packed: &[u8], words: &[u64], i: usize) -> u64

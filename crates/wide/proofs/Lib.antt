@@ -1,0 +1,2 @@
+-- words that are filled with the entries of a table
+pub mod Widening

@@ -1,0 +1,2 @@
+-- entries in 64-bit words
+pub mod Wide
