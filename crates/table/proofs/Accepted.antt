@@ -1,10 +1,9 @@
 -- What an accepted table is known to meet: the kinds are known, and used references are smaller than their entry's number.
 -- So the formula of an entry, and its truth, are those of document 01's table of kinds with the entries that it refers to.
 use mathlib.Core.Path.{_≡_, refl, ap, ap₂, _∙_}
-use mathlib.Core.Logic.{⊎-elim}
-use mathlib.Core.Bool.{Bool, true, false, not, _&&_}
+use mathlib.Core.Bool.{Bool, true, false, _&&_}
 use mathlib.Core.List.{List}
-use Prim.Native.Nat.{ℕ, zero, suc, _<_, _≤_}
+use Prim.Native.Nat.{ℕ, _<_}
 use native.Mathlib.Omega.{arith}
 use lib.Dec.{leb}
 use lib.ListN.{length, getD}
@@ -13,7 +12,6 @@ use Rattle.semantics.specs.Formula.{Formula, falsum, neg, conj, disj, atLeast, 
 use Rattle.semantics.specs.Structure.{Structure}
 use Rattle.semantics.specs.Truth.{truth}
 use Rattle.faults.specs.declared.Fault.the-variants.{TableLength, Kind, UnusedField, Reference}
-use Rattle.faults.specs.declared.Verdict.{Verdict}
 use Rattle.faults.specs.declared.Verdict.the-variants.{Accepted}
 use Rattle.faults.specs.Verdict.{refuseIf}
 use Rattle.faults.proofs.Each.{not-refused, neither, both-accepted, each-accepted}

@@ -9,9 +9,9 @@ use native.Mathlib.Omega.{arith}
 use lib.ListN.{length, getD, replicate, set}
 use Rattle.packed.proofs.Filling.{fill-below, fill-behind}
 use Rattle.packed.proofs.Zeros.{zeros-at}
-use Rattle.semantics.specs.Formula.{Formula, falsum, depth}
+use Rattle.semantics.specs.Formula.{depth}
 use Rattle.table.specs.declared.entry.Entry.{Entry}
-use Rattle.table.specs.Formulas.{formulaOf, formulaAt, depthAt, depthOf, Depths}
+use Rattle.table.specs.Formulas.{depthAt, depthOf, Depths}
 use Rattle.table.proofs.Cases.{by-kind}
 use Rattle.table.proofs.Formulas.{earlier, earlier-below, earlier-past, formulaAt-earlier, depth-formulaOf}
 

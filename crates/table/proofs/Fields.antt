@@ -1,6 +1,6 @@
 -- Masks and fields of a packed entry. A mask meets a word field by field, so a word has no bit in common with the
 -- complement of the used bits exactly when every unused field is 0.
-use mathlib.Core.Path.{_≡_, refl, sym, ap, ap₂, _∙_}
+use mathlib.Core.Path.{_≡_, refl, sym, ap, _∙_}
 use mathlib.Core.Bool.{Bool, true, false, not, _&&_, _||_, Bool·not-not}
 use Prim.Native.Nat.{ℕ, zero, suc, _+_, _-_, _*_, _/_, _%_, _^_, _≤_, _<_}
 use native.Mathlib.Nat.{mod-lt, mod-mod, div-one, zero-mul, zero-add, suc-mul}

@@ -3,9 +3,8 @@ ghost use mathlib.Core.Path.{_≡_};
 ghost use mathlib.Core.Bool.{_&&_};
 ghost use Prim.Native.Nat.{_<_, _≤_};
 ghost use lib.Dec.{eqb, leb};
-ghost use Rattle.faults.specs.Verdict.{each, refuseIf};
 ghost use Rattle.table.specs.Entry.{entryOf, entryAt};
-ghost use Rattle.table.specs.Check.{usesOf, hasStray, refersUp, fieldsVerdict, entryVerdict, entriesVerdict, depthVerdict, tableVerdict};
+ghost use Rattle.table.specs.Check.{usesOf, refersUp, fieldsVerdict, entryVerdict, entriesVerdict, depthVerdict, tableVerdict};
 ghost use Rattle.table.specs.Mask.{usedBits};
 
 

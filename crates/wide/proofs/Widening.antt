@@ -5,7 +5,7 @@ use mathlib.Core.List.{List}
 use Prim.Native.Nat.{ℕ, suc, _<_}
 use native.Mathlib.Nat.{eq-or-lt-of-le, le-of-suc-le-suc, not-suc-le-zero}
 use native.Mathlib.Omega.{arith}
-use lib.ListN.{length, getD, replicate, set}
+use lib.ListN.{length, replicate, set}
 use lib.Seq.{getD-set-same, getD-set-other}
 use Rattle.packed.proofs.Zeros.{zeros-at}
 use Rattle.table.specs.Entry.{entryAt}

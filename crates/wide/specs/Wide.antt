@@ -5,7 +5,7 @@ use Prim.Native.Nat.{ℕ, _<_, _≤_}
 use lib.ListN.{getD}
 use Rattle.table.specs.declared.entry.Entry.{Entry}
 use Rattle.packed.specs.Field.{field}
-use Rattle.table.specs.Entry.{entryAt, size}
+use Rattle.table.specs.Entry.{entryAt}
 
 -- kind 4 bits, name 16, another name 16 that is not used yet, first 8, second 8, grade 12, most significant first
 abbrev pub wideOf : ℕ → Entry

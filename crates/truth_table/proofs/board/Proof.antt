@@ -8,7 +8,6 @@ use borrow.Author.Needs.{needs}
 use borrow.Author.Tests.{ltb-false}
 use Rattle.faults.specs.declared.Fault.the-variants.{Space}
 use Rattle.faults.specs.declared.Verdict.the-variants.{Accepted}
-use Rattle.faults.specs.Verdict.{andThen, refuseIf}
 use Rattle.faults.proofs.Each.{both-accepted, not-refused}
 use Rattle.structure.specs.Check.{structureVerdict}
 use Rattle.table.specs.Entry.{size}

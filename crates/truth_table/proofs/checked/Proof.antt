@@ -1,5 +1,5 @@
 -- `checked` meets its contract: the checks are made in the definition's order.
-use mathlib.Core.Path.{_≡_, sym, _∙_}
+use mathlib.Core.Path.{sym, _∙_}
 use borrow.Author.Needs.{needs}
 use borrow.Author.Tests.{lt-ltb, le-ltb}
 use Rattle.truth_table.proofs.checked.Statement.{statement}

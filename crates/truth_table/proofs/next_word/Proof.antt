@@ -1,6 +1,5 @@
 -- `next_word` meets its contract: an entry of an accepted table refers to entries before it, whose words are there.
-use mathlib.Core.Path.{_≡_, sym, ap, _∙_}
-use Prim.Native.Nat.{ℕ}
+use mathlib.Core.Path.{sym, ap, _∙_}
 use borrow.Author.Needs.{needs}
 use Rattle.semantics.specs.Formula.{Formula}
 use Rattle.semantics.specs.Truth.{truth}

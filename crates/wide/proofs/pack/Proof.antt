@@ -3,7 +3,6 @@ use mathlib.Core.Path.{_≡_}
 use native.Mathlib.Omega.{arith}
 use borrow.Author.Needs.{needs}
 use Rattle.table.specs.declared.entry.Entry.{Entry}
-use Rattle.wide.specs.Wide.{wideOf}
 use Rattle.wide.proofs.pack.Statement.{statement}
 use Rattle.wide.proofs.pack.Tie as tie
 

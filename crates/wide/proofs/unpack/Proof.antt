@@ -1,6 +1,4 @@
 -- `unpack` meets its contract: a shift divides and `%` cuts, as in the definition; the lowest field needs no shift.
-use mathlib.Core.Path.{refl, sym, ap}
-use Prim.Native.Nat.{ℕ, _%_}
 use native.Mathlib.Nat.{div-one}
 use borrow.Author.Needs.{needs}
 use Rattle.wide.proofs.unpack.Statement.{statement}

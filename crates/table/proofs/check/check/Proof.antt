@@ -4,9 +4,7 @@ use mathlib.Core.Bool.{false}
 use lib.ListN.{length}
 use borrow.Author.Needs.{needs}
 use borrow.Author.Tests.{eq-eqb, ne-eqb, lt-ltb, le-ltb}
-use Rattle.faults.specs.declared.Verdict.the-variants.{Accepted}
-use Rattle.table.specs.Entry.{entryAt, size}
-use Rattle.table.specs.Check.{lengthFaulty, entriesVerdict, tableVerdict}
+use Rattle.table.specs.Check.{lengthFaulty, tableVerdict}
 use Rattle.table.proofs.check.check.Statement.{statement}
 use Rattle.table.proofs.check.check.Tie as tie
 

@@ -1,13 +1,12 @@
 -- `depths` meets its contract. The invariant: the list holds the depths of the entries passed, and 0 behind them.
-use mathlib.Core.Path.{_≡_, refl, sym, ap₂, _∙_}
-use mathlib.Core.List.{List}
-use Prim.Native.Nat.{ℕ, suc, _-_, _<_, _≤_}
+use mathlib.Core.Path.{_≡_, refl}
+use Prim.Native.Nat.{_-_, _<_, _≤_}
 use native.Mathlib.Numerals.{add-one}
 use native.Mathlib.Omega.{arith}
-use lib.ListN.{length, getD, length-set}
+use lib.ListN.{length, length-set}
 use borrow.Author.Needs.{needs}
 use Rattle.table.specs.Entry.{entryAt}
-use Rattle.table.specs.Formulas.{depthAt, depthOf, Depths}
+use Rattle.table.specs.Formulas.{depthAt, Depths}
 use Rattle.table.proofs.Depths.{depthAt-rule, depths-none, depths-earlier, depths-le, depths-next}
 use Rattle.table.proofs.depth.depths.Statement.{statement}
 use Rattle.table.proofs.depth.depths.Tie as tie

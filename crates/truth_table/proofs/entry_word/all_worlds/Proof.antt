@@ -1,6 +1,6 @@
 -- `all_worlds` meets its contract: 64 ones, of which as many are shifted out as there are worlds too few.
 use mathlib.Core.Path.{_≡_, sym, ap, _∙_}
-use Prim.Native.Nat.{ℕ, _+_, _-_, _/_, _^_, _≤_}
+use Prim.Native.Nat.{ℕ, _+_, _-_, _/_, _^_}
 use native.Mathlib.Omega.{arith}
 use lib.Pow.{ones-split, ones-lt, high}
 use borrow.Author.Needs.{needs}
