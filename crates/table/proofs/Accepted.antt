@@ -8,7 +8,7 @@ use native.Mathlib.Omega.{arith}
 use lib.Dec.{leb}
 use lib.ListN.{length, getD}
 use borrow.Author.Tests.{leb-false}
-use Rattle.semantics.specs.Formula.{Formula, falsum, neg, conj, disj, atLeast, atMost}
+use Rattle.semantics.specs.Formula.{Formula, depth, falsum, neg, conj, disj, atLeast, atMost}
 use Rattle.semantics.specs.Structure.{Structure}
 use Rattle.semantics.specs.Truth.{truth}
 use Rattle.faults.specs.declared.Fault.the-variants.{TableLength, Kind, UnusedField, Reference}
@@ -17,10 +17,10 @@ use Rattle.faults.specs.Verdict.{refuseIf}
 use Rattle.faults.proofs.Each.{not-refused, neither, both-accepted, each-accepted}
 use Rattle.table.specs.declared.entry.Entry.{Entry}
 use Rattle.table.specs.Entry.{entryAt, size}
-use Rattle.table.specs.Formulas.{kinds, formulaOf, formulaAt}
+use Rattle.table.specs.Formulas.{kinds, formulaOf, formulaAt, depthAt, depthOf}
 use Rattle.table.specs.Check.{usesOf, hasStray, refersUp, entryVerdict, entriesVerdict, lengthFaulty, tableVerdict}
 use Rattle.table.proofs.Cases.{by-kind}
-use Rattle.table.proofs.Formulas.{earlier, earlier-below, formulaAt-earlier, truthOf, truth-formulaOf}
+use Rattle.table.proofs.Formulas.{earlier, earlier-below, formulaAt-earlier, truthOf, truth-formulaOf, depth-formulaOf}
 
 -- an entry without a fault of its own, as number i of a table
 pub record Fitting (e : Entry) (i : ℕ) : Type 0 where
@@ -62,6 +62,10 @@ module _ {entry : ℕ → Entry} {n : ℕ} (wf : WellFormed entry n) where
       ∙ kinds-ext (earlier entry i) (formulaAt entry) (entry i) (entry i .kind)
         (λ u. earlier-below entry i (entry i .first) (wf i h .first u))
         (λ u. earlier-below entry i (entry i .second) (wf i h .second u))
+
+  -- the depth of an entry, from those of the entries that it refers to
+  pub depth-rule : (i : ℕ) → i < n → depthAt entry i ≡ depthOf (depthAt entry (entry i .first)) (depthAt entry (entry i .second)) (entry i .kind)
+  depth-rule i h = ap depth (formula-rule i h) ∙ depth-formulaOf (formulaAt entry) (entry i)
 
   -- the truth of an entry, from that of the entries that it refers to
   pub truth-rule : (s : Structure) (w i : ℕ) → i < n
