@@ -1,0 +1,2 @@
+-- the two cases of a split
+pub mod Splitting

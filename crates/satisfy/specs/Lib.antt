@@ -1,0 +1,3 @@
+-- The decision by a tableau, as the program keeps it. Inner contracts: nothing here is promised to others.
+-- what is asked of a world, and the two cases of a split
+pub mod World

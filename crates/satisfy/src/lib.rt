@@ -1,0 +1,2 @@
+// Whether what is wanted can be had at some world of some finite structure.
+pub mod branch;
