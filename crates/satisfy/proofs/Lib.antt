@@ -1,2 +1,4 @@
 -- the two cases of a split
 pub mod Splitting
+-- the promises of a successor, one after the other
+pub mod Promises

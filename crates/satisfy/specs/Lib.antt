@@ -1,3 +1,5 @@
 -- The decision by a tableau, as the program keeps it. Inner contracts: nothing here is promised to others.
 -- what is asked of a world, and the two cases of a split
 pub mod World
+-- what the promises of a successor come to
+pub mod Promise

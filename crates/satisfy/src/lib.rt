@@ -1,2 +1,3 @@
 // Whether what is wanted can be had at some world of some finite structure.
 pub mod branch;
+pub mod promise;

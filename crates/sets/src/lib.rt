@@ -141,4 +141,18 @@ impl Set {
             Below::At(Set { bits: (b - 1) & c })
         }
     }
+
+    // The number that the members spell.
+    pub fn code(self) -> u64
+        ensures { λ r. ⌜ r ≡ code self ⌝ }
+    {
+        self.bits
+    }
+
+    // The set whose members spell this number.
+    pub fn of_code(number: u64) -> Set
+        ensures { λ r. ⌜ code r ≡ number ⌝ }
+    {
+        Set { bits: number }
+    }
 }

@@ -1,0 +1,5 @@
+-- The laws of the search as the program keeps it.
+-- which entries are needs and limits
+pub mod Asking
+-- slots in words
+pub mod Slots

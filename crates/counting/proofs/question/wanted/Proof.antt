@@ -1,0 +1,6 @@
+-- `wanted` meets its contract.
+use Rattle.counting.proofs.question.wanted.Statement.{statement}
+use Rattle.counting.proofs.question.wanted.Tie as tie
+
+pub wanted-spec : {M : Type 1} → statement M
+wanted-spec = tie.close (tie.spec (λ c. rw (c .before .if1 .taken)) (λ c. rw (c .before .if1 .left)))

@@ -1,0 +1,5 @@
+-- The search for a solution, as the program keeps it. Inner contracts: nothing here is promised to others.
+-- a question as a problem
+pub mod Question
+-- the stack of slots in lent words
+pub mod Stack

@@ -1,0 +1,28 @@
+-- A question as the problem that it poses.
+use mathlib.Core.Path.{_≡_}
+use mathlib.Core.Bool.{Bool, true, _&&_}
+use mathlib.Core.List.{List}
+use Prim.Native.Nat.{ℕ, _<_, _≤_}
+use lib.Dec.{eqb}
+use lib.ListN.{length}
+use Rattle.sets.specs.Set.{member}
+use Rattle.table.specs.declared.entry.Entry.{Entry}
+use Rattle.wide.specs.Wide.{wideAt}
+use Rattle.tableau.specs.Wants.{wanted}
+use Rattle.tableau.specs.Counting.{bound}
+use Rattle.tableau.specs.Search.{Problem}
+use Rattle.counting.specs.declared.question.Question.{Question}
+
+-- the needs and limits of the question's relation
+abbrev pub problemOf : List ℕ → Question → Problem
+problemOf entries q =
+    record { entry = wideAt entries; n = length entries; yes = member (q .yes); no = member (q .no); relation = q .relation }
+
+-- is entry i, with the fields e, a need (c true) or a limit (c false) of the question's relation
+abbrev pub asks : Question → Entry → ℕ → (c : Bool) → Bool
+asks q e i c = eqb (e .name) (q .relation) && bound (member (q .yes)) (member (q .no)) e i c
+
+-- there are no more entries than a set has room for, and only entries are wanted
+pub record Small (P : Problem) : Type 0 where
+  pub few : P .n ≤ 64
+  pub below : (b : Bool) (i : ℕ) → wanted (P .yes) (P .no) b i ≡ true → i < P .n

@@ -1,0 +1,104 @@
+// What is asked of the successors by one relation: which entries are needs, which are limits, and what they ask for.
+ghost use mathlib.Core.Path.{_≡_};
+ghost use mathlib.Core.Bool.{_&&_};
+ghost use Prim.Native.Nat.{_-_, _<_};
+ghost use lib.Dec.{eqb};
+ghost use lib.ListN.{length};
+ghost use Rattle.sets.specs.Set.{member};
+ghost use Rattle.tableau.specs.Wants.{wanted, addedIf};
+ghost use Rattle.tableau.specs.Counting.{bound, speaks, lo, hi};
+ghost use Rattle.tableau.specs.Search.{asking};
+ghost use Rattle.counting.specs.Question.{problemOf, asks, Small};
+
+use sets::Set;
+use table::entry::Entry;
+use wide::wide_at;
+
+// The entries wanted true and those wanted false, and the relation whose successors are counted.
+pub struct Question {
+    pub yes: Set,
+    pub no: Set,
+    pub relation: u32,
+}
+
+// The entries wanted to be so.
+fn wanted(q: Question, truth: bool) -> Set
+    ensures { λ r. ⌜ member r ≡ wanted (member (q .yes)) (member (q .no)) truth ⌝ }
+{
+    if truth { q.yes } else { q.no }
+}
+
+// Whether entry i, with these fields, is a need, or else a limit. At least is a need where it is wanted true, at most where it is wanted false.
+fn is_bound(e: Entry, q: Question, i: usize, need: bool) -> bool
+    ensures { λ r. ⌜ r ≡ bound (member (q .yes)) (member (q .no)) e i need ⌝ }
+{
+    let kind = e.kind;
+    match kind {
+        6 => wanted(q, need).contains(i),
+        7 => wanted(q, !need).contains(i),
+        _ => false,
+    }
+}
+
+// Whether it is one by the relation of the question.
+pub fn asks(e: Entry, q: Question, i: usize, need: bool) -> bool
+    ensures { λ r. ⌜ r ≡ asks q e i need ⌝ }
+{
+    let name = e.name;
+    let relation = q.relation;
+    if name == relation { is_bound(e, q, i, need) } else { false }
+}
+
+// A difference, 0 where it would be negative.
+pub fn less(a: u64, b: u64) -> u64
+    ensures { λ r. ⌜ r ≡ a - b ⌝ }
+{
+    if b < a { a - b } else { 0 }
+}
+
+// How many successors a need asks for: not at most so many is one more.
+pub fn least(e: Entry) -> u64
+    ensures { λ r. ⌜ r ≡ lo e ⌝ }
+{
+    let kind = e.kind;
+    let grade = e.grade as u64;
+    if kind == 6 { grade } else { grade + 1 }
+}
+
+// How many successors a limit allows: not at least so many is one less.
+pub fn most(e: Entry) -> u64
+    ensures { λ r. ⌜ r ≡ hi e ⌝ }
+{
+    let kind = e.kind;
+    let grade = e.grade as u64;
+    if kind == 6 { less(grade, 1) } else { grade }
+}
+
+// The set with entry i, if that is a need or a limit.
+fn with_asking(found: Set, e: Entry, q: Question, i: usize) -> Set
+    requires { ⌜ i < 64 ⌝ }
+    ensures { λ r. ⌜ member r ≡ addedIf (speaks (member (q .yes)) (member (q .no)) e i (q .relation)) (member found) i ⌝ }
+{
+    if asks(e, q, i, true) {
+        return found.with(i);
+    }
+    if asks(e, q, i, false) {
+        return found.with(i);
+    }
+    found
+}
+
+// All the needs and limits.
+pub fn asking(entries: &[u64], q: Question) -> Set
+    requires { ⌜ Small (problemOf (now entries) q) ⌝ }
+    ensures { λ r. ⌜ member r ≡ asking (problemOf (now (entries .entry)) q) ⌝ }
+{
+    let n = entries.len();
+    let mut found = Set::empty();
+    let mut i = 0;
+    while i < n {
+        found = with_asking(found, wide_at(entries, i), q, i);
+        i += 1;
+    }
+    found
+}
