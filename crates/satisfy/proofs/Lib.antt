@@ -2,3 +2,5 @@
 pub mod Splitting
 -- the promises of a successor, one after the other
 pub mod Promises
+-- the counting entries, entry by entry
+pub mod Counted

@@ -3,3 +3,5 @@
 pub mod World
 -- what the promises of a successor come to
 pub mod Promise
+-- the counting entries and their relations
+pub mod Relation

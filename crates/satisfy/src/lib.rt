@@ -1,3 +1,4 @@
 // Whether what is wanted can be had at some world of some finite structure.
 pub mod branch;
 pub mod promise;
+pub mod relation;
