@@ -1,10 +1,13 @@
 // A case: one call of `hurnavis::board`, its number and every word compared with what document 01 gives.
+use crate::records::Packed;
 use crate::records::Records;
 use crate::rows::Rows;
 use crate::rows::Words;
 use crate::rows::before;
 use libc::STDOUT_FILENO;
+use vectors::entries::Room;
 use vectors::tally::Tally;
+use vectors::tally::number;
 
 // The first place where two lists of words differ, 66 where they do not.
 fn difference(a: Words, b: Words) -> usize {
@@ -28,31 +31,49 @@ fn compare(tally: Tally, got: Words, expected: Words) -> Tally {
     tally.case(got[i], expected[i])
 }
 
-// The number of a call that is lent the first `lent` words. More than there are give 255, which no case expects.
-fn call(rows: Rows, records: Records, words: &mut Words, lent: usize) -> u8 {
-    let table = rows.table;
-    let bytes = rows.bytes;
+// The number of a call on the first bytes of a structure. Here and below, more than there is gives 255, which no case
+// expects.
+fn on_structure(table: &[u8], structure: Packed, bytes: usize, words: &mut [u64]) -> u8 {
+    if 3075 < bytes {
+        return 255;
+    }
+    let verdict = hurnavis::board(table, &structure[..bytes], words);
+    number(verdict)
+}
+
+// The same on the first bytes of a table.
+fn on_table(table: Room, bytes: usize, records: Records, words: &mut [u64]) -> u8 {
     if 260 < bytes {
         return 255;
     }
-    if 66 < lent {
+    let structure = records.bytes;
+    on_structure(&table[..bytes], structure, records.length, words)
+}
+
+// The same with the first `lent` words lent.
+fn call(rows: Rows, records: Records, words: &mut [u64], lent: usize) -> u8 {
+    if words.len() < lent {
         return 255;
     }
-    records.board(&table[..bytes], &mut words[..lent])
+    let table = rows.table;
+    on_table(table, rows.bytes, records, &mut words[..lent])
 }
 
 // A case that lends so many words. A refusal leaves all of them as before.
 pub fn lends(tally: Tally, rows: Rows, records: Records, lent: usize, expected: u8) -> Tally {
     let mut words = before();
-    let number = call(rows, records, &mut words, lent);
-    if number != expected {
-        return tally.case(number as u64, expected as u64);
+    let got = call(rows, records, &mut words, lent);
+    if got != expected {
+        return tally.case(got as u64, expected as u64);
     }
-    let after = if expected == 0 { rows.words } else { before() };
-    compare(tally, words, after)
+    if expected == 0 {
+        let filled = rows.words;
+        return compare(tally, words, filled);
+    }
+    compare(tally, words, before())
 }
 
-// A case that is answered, with two words to spare.
+// A case that is answered, with words to spare.
 pub fn answers(tally: Tally, rows: Rows, records: Records) -> Tally {
     lends(tally, rows, records, 66, 0)
 }

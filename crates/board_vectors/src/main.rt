@@ -12,13 +12,13 @@ mod rows;
 use case::lends;
 use records::Records;
 use rows::Rows;
-use vectors::table::FALSE;
-use vectors::table::TRUE;
-use vectors::table::and;
-use vectors::table::at_least;
-use vectors::table::at_most;
-use vectors::table::fact;
-use vectors::table::not;
+use vectors::entries::FALSE;
+use vectors::entries::TRUE;
+use vectors::entries::and;
+use vectors::entries::at_least;
+use vectors::entries::at_most;
+use vectors::entries::fact;
+use vectors::entries::not;
 use vectors::tally::Tally;
 
 // The build of document 01, as it stands there: one link is stated twice.

@@ -1,9 +1,12 @@
 // Structures for the cases, packed record by record as document 01 says.
 
-// Room for 1,025 records, one more than a structure may have. The first `length` bytes are the structure.
+// Room for 1,025 records, one more than a structure may have.
+pub type Packed = [u8; 3075];
+
+// The first `length` bytes are the structure.
 pub struct Records {
-    bytes: [u8; 3075],
-    length: usize,
+    pub bytes: Packed,
+    pub length: usize,
 }
 
 // The 24 bits of the records of each kind. A header has the number of worlds, packed less 1.
@@ -54,17 +57,5 @@ impl Records {
     pub fn cut(self, length: usize) -> Records {
         let bytes = self.bytes;
         Records { bytes: bytes, length: length }
-    }
-
-    // Calls the board with these records, and words lent from the start of what there is. More than there is gives 255,
-    // which no case expects.
-    pub fn board(self, table: &[u8], words: &mut [u64]) -> u8 {
-        let bytes = self.bytes;
-        let length = self.length;
-        if 3075 < length {
-            return 255;
-        }
-        let verdict = hurnavis::board(table, &bytes[..length], words);
-        vectors::tally::number(verdict)
     }
 }

@@ -1,6 +1,6 @@
 // The entries of a table, and beside each the word that the board is to have for it.
-use vectors::table::Room;
-use vectors::table::put;
+use vectors::entries::Room;
+use vectors::entries::put;
 
 // The words lent at the most: two more than the entries of the longest table.
 pub type Words = [u64; 66];
@@ -45,9 +45,5 @@ impl Rows {
         let table = self.table;
         let words = self.words;
         Rows { table: table, bytes: bytes, words: words }
-    }
-
-    pub fn entries(self) -> usize {
-        self.bytes / 4
     }
 }

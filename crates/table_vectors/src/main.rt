@@ -1,10 +1,10 @@
 // The check of a table, run at its boundaries. Each case states the number that document 01 gives, 0 for an accepted
 // table, and is compared with `hurnavis::check_table`. A case that comes out differently is reported on a line.
-use vectors::table::Room;
-use vectors::table::chain;
-use vectors::table::facts;
-use vectors::table::pack;
-use vectors::table::put;
+use vectors::entries::Room;
+use vectors::entries::chain;
+use vectors::entries::facts;
+use vectors::entries::pack;
+use vectors::entries::put;
 use vectors::tally::Tally;
 
 // The number for the first bytes of a table. More bytes than there are give 255, which no case expects.
