@@ -1,20 +1,31 @@
 // The check of a table, run at its boundaries. Each case states the number that document 01 gives, 0 for an accepted
 // table, and is compared with `hurnavis::check_table`. A case that comes out differently is reported on a line.
-mod build;
-mod tally;
+use vectors::entries::Room;
+use vectors::entries::chain;
+use vectors::entries::facts;
+use vectors::entries::pack;
+use vectors::entries::put;
+use vectors::tally::Tally;
 
-use build::Room;
-use build::chain;
-use build::facts;
-use build::pack;
-use build::put;
-use tally::Tally;
+// The number for the first bytes of a table. More bytes than there are give 255, which no case expects.
+fn answer(table: Room, bytes: usize) -> u8 {
+    if 260 < bytes {
+        return 255;
+    }
+    let verdict = hurnavis::check_table(&table[..bytes]);
+    vectors::tally::number(verdict)
+}
+
+// A case on the first bytes of a table.
+fn case(tally: Tally, table: Room, bytes: usize, expected: u8) -> Tally {
+    tally.case(answer(table, bytes) as u64, expected as u64)
+}
 
 // A case on the first bytes of a table whose entries are all "true" but entry i.
 fn one(tally: Tally, bytes: usize, i: usize, entry: u32, expected: u8) -> Tally {
     let mut table = [0u8; 260];
     put(&mut table, i, entry);
-    tally.case(table, bytes, expected)
+    case(tally, table, bytes, expected)
 }
 
 // A case on four entries, all "true" but entries 1 and 2.
@@ -22,27 +33,27 @@ fn two(tally: Tally, earlier: u32, later: u32, expected: u8) -> Tally {
     let mut table = [0u8; 260];
     put(&mut table, 1, earlier);
     put(&mut table, 2, later);
-    tally.case(table, 16, expected)
+    case(tally, table, 16, expected)
 }
 
 // Entries without a fault, cut at each length.
 fn length_cases(before: Tally, table: Room) -> Tally {
     // No entry.
-    let mut tally = before.case(table, 0, 1);
+    let mut tally = case(before, table, 0, 1);
     // Around one entry.
-    tally = tally.case(table, 1, 1);
-    tally = tally.case(table, 2, 1);
-    tally = tally.case(table, 3, 1);
-    tally = tally.case(table, 4, 0);
-    tally = tally.case(table, 5, 1);
+    tally = case(tally, table, 1, 1);
+    tally = case(tally, table, 2, 1);
+    tally = case(tally, table, 3, 1);
+    tally = case(tally, table, 4, 0);
+    tally = case(tally, table, 5, 1);
     // 63 entries.
-    tally = tally.case(table, 252, 0);
+    tally = case(tally, table, 252, 0);
     // Around 64 entries, the most.
-    tally = tally.case(table, 255, 1);
-    tally = tally.case(table, 256, 0);
-    tally = tally.case(table, 257, 1);
+    tally = case(tally, table, 255, 1);
+    tally = case(tally, table, 256, 0);
+    tally = case(tally, table, 257, 1);
     // 65 entries.
-    tally.case(table, 260, 1)
+    case(tally, table, 260, 1)
 }
 
 fn lengths(before: Tally) -> Tally {
@@ -287,22 +298,22 @@ fn depths(before: Tally) -> Tally {
     let mut tally = before.subject(10000);
     // 63 counting entries over one fact: at least, at most, and the two in turn.
     let at_least = chain(6, 6, 7, 1);
-    tally = tally.case(at_least, 256, 0);
-    tally = tally.case(chain(7, 7, 7, 1), 256, 0);
-    tally = tally.case(chain(6, 7, 7, 255), 256, 0);
-    tally = tally.case(chain(7, 6, 255, 0), 256, 0);
+    tally = case(tally, at_least, 256, 0);
+    tally = case(tally, chain(7, 7, 7, 1), 256, 0);
+    tally = case(tally, chain(6, 7, 7, 255), 256, 0);
+    tally = case(tally, chain(7, 6, 255, 0), 256, 0);
     // 63 times not.
-    tally = tally.case(chain(3, 3, 0, 0), 256, 0);
+    tally = case(tally, chain(3, 3, 0, 0), 256, 0);
     // Depth 64 takes one entry too many.
-    tally = tally.case(at_least, 260, 1);
+    tally = case(tally, at_least, 260, 1);
     // The deepest chain with a fault in its last entry.
     let mut faulty = at_least;
     put(&mut faulty, 63, pack(8, 0, 62, 0, 0));
-    tally = tally.case(faulty, 256, 2);
+    tally = case(tally, faulty, 256, 2);
     put(&mut faulty, 63, pack(6, 7, 62, 1, 1));
-    tally = tally.case(faulty, 256, 3);
+    tally = case(tally, faulty, 256, 3);
     put(&mut faulty, 63, pack(6, 7, 63, 0, 1));
-    tally.case(faulty, 256, 4)
+    case(tally, faulty, 256, 4)
 }
 
 fn main() {
@@ -317,5 +328,5 @@ fn main() {
     tally = within_entry(tally);
     tally = between_entries(tally);
     tally = depths(tally);
-    tally.print();
+    tally.print(b"table vectors");
 }

@@ -1,8 +1,8 @@
 -- `facts` is safe and ends. The measure: the entries that are left.
 use Prim.Native.Nat.{_-_}
 use borrow.Author.Needs.{needs}
-use Rattle.table_vectors.proofs.build.facts.Statement.{statement}
-use Rattle.table_vectors.proofs.build.facts.Tie as tie
+use Rattle.vectors.proofs.entries.facts.Statement.{statement}
+use Rattle.vectors.proofs.entries.facts.Tie as tie
 
 abbrev Inv-loop : tie.InvT-loop
 Inv-loop table₀ name₀ table name = Unit {0}

@@ -2,8 +2,8 @@
 use mathlib.Core.Path.{sym}
 use lib.Seq.{length-take-le}
 use borrow.Author.Needs.{needs}
-use Rattle.table_vectors.proofs.tally.answer.Statement.{statement}
-use Rattle.table_vectors.proofs.tally.answer.Tie as tie
+use Rattle.table_vectors.proofs.answer.Statement.{statement}
+use Rattle.table_vectors.proofs.answer.Tie as tie
 
 slice-aggregate-check-table : tie.Need-slice-aggregate-check-table
 slice-aggregate-check-table c =
@@ -17,8 +17,5 @@ answer-spec =
     (λ c. search needs)
     slice-aggregate-check-table
     (λ c κs. search needs)
-    (λ c. search needs)
-    (λ c. search needs)
     (λ c κs. search needs)
-    (λ c. search needs)
     (λ c. search needs))

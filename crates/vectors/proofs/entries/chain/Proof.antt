@@ -1,8 +1,8 @@
 -- `chain` is safe and ends. The measure: the entries that are left.
 use Prim.Native.Nat.{_-_}
 use borrow.Author.Needs.{needs}
-use Rattle.table_vectors.proofs.build.chain.Statement.{statement}
-use Rattle.table_vectors.proofs.build.chain.Tie as tie
+use Rattle.vectors.proofs.entries.chain.Statement.{statement}
+use Rattle.vectors.proofs.entries.chain.Tie as tie
 
 abbrev Inv-loop : tie.InvT-loop
 Inv-loop odd even name grade table₀ first₀ table first = Unit {0}

@@ -1,5 +1,4 @@
 // How many cases were run, and how many came out as expected.
-use crate::build::Room;
 use faults::Verdict;
 use libc::STDOUT_FILENO;
 
@@ -11,26 +10,21 @@ pub struct Tally {
     right: u32,
 }
 
-// The number for the first bytes of a table, 0 where they are accepted. More bytes than there are give 255, which no
-// case expects.
-fn answer(table: Room, bytes: usize) -> u8 {
-    if 260 < bytes {
-        return 255;
-    }
-    let verdict = hurnavis::check_table(&table[..bytes]);
+// The number that a call is refused with, 0 where it is accepted.
+pub fn number(verdict: Verdict) -> u8 {
     match verdict {
         Verdict::Accepted => 0,
         Verdict::Refused(fault) => fault.number(),
     }
 }
 
-fn report(case: u32, got: u8, expected: u8) {
+fn report(case: u32, got: u64, expected: u64) {
     io::write_all(STDOUT_FILENO, b"case ");
     io::print_decimal(STDOUT_FILENO, case as u64);
     io::write_all(STDOUT_FILENO, b": got ");
-    io::print_decimal(STDOUT_FILENO, got as u64);
+    io::print_decimal(STDOUT_FILENO, got);
     io::write_all(STDOUT_FILENO, b", expected ");
-    io::print_decimal(STDOUT_FILENO, expected as u64);
+    io::print_decimal(STDOUT_FILENO, expected);
     io::write_all(STDOUT_FILENO, b"\n");
 }
 
@@ -44,12 +38,10 @@ impl Tally {
         Tally { case: thousand, run: self.run, right: self.right }
     }
 
-    // Runs a case on the first bytes of a table, and reports it if it comes out differently. The counts stay far below
-    // where they would wrap.
-    pub fn case(self, table: Room, bytes: usize, expected: u8) -> Tally {
+    // Counts a case, and reports it if it came out differently. The counts stay far below where they would wrap.
+    pub fn case(self, got: u64, expected: u64) -> Tally {
         let case = std::num::wrapping_add_u32(self.case, 1);
         let run = std::num::wrapping_add_u32(self.run, 1);
-        let got = answer(table, bytes);
         if got == expected {
             let right = std::num::wrapping_add_u32(self.right, 1);
             return Tally { case: case, run: run, right: right };
@@ -58,9 +50,10 @@ impl Tally {
         Tally { case: case, run: run, right: self.right }
     }
 
-    // The last line.
-    pub fn print(self) {
-        io::write_all(STDOUT_FILENO, b"table vectors: ");
+    // The last line, which opens with the program's name.
+    pub fn print(self, name: &[u8]) {
+        io::write_all(STDOUT_FILENO, name);
+        io::write_all(STDOUT_FILENO, b": ");
         io::print_decimal(STDOUT_FILENO, self.right as u64);
         io::write_all(STDOUT_FILENO, b" of ");
         io::print_decimal(STDOUT_FILENO, self.run as u64);
