@@ -15,15 +15,18 @@ use sets::Highest;
 use sets::Set;
 use wide::wide_at;
 
-// The entries wanted true and those wanted false; pending are those of them that are still to be split: any one of their parts is enough.
+// The entries wanted true, and those wanted false. Pending are those of them of which one part is enough, while it is open which.
 pub struct Wants {
     pub yes: Set,
     pub no: Set,
     pub pending: Set,
 }
 
+// What wanting an entry besides comes to.
 pub enum Outcome {
+    // Every rule has been applied.
     Settled(Wants),
+    // No world is as wanted.
     Clash,
 }
 
@@ -80,12 +83,14 @@ fn first_step(entries: &[u64], e: usize, w: Wants, truth: bool) -> Step
     }
     let at = wide_at(entries, e);
     let kind = at.kind;
+    // A not.
     if kind == 3 {
         return Step::Turned(at.first as usize);
     }
     if kind == both_kind(truth) {
         return Step::Both(at.first as usize, at.second as usize);
     }
+    // One part is enough, and which is left open.
     let pending = kind == both_kind(!truth);
     Step::Done(Outcome::Settled(put(w, e, truth, pending)))
 }
@@ -109,6 +114,7 @@ fn clashes(entries: &[u64], e: usize, w: Wants, truth: bool) -> bool
     let at = wide_at(entries, e);
     let kind = at.kind;
     match kind {
+        // True, false, a fact, at least so many.
         0 => !truth,
         1 => truth,
         2 => has_fact(entries, opposite, at.name),

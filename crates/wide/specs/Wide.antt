@@ -17,7 +17,7 @@ abbrev pub wideAt : List ℕ → ℕ → Entry
 wideAt words i = wideOf (getD words i 0)
 
 -- an entry whose fields have room in a word
-pub record Fits (e : Entry) : Type 0 where
+pub record FitsWide (e : Entry) : Type 0 where
   pub kind : e .kind < 16
   pub name : e .name < 65536
   pub first : e .first < 256

@@ -2,7 +2,7 @@
 ghost use mathlib.Core.Path.{_≡_};
 ghost use Prim.Native.Nat.{_≤_};
 ghost use Rattle.table.specs.Entry.{size};
-ghost use Rattle.wide.specs.Wide.{wideOf, wideAt, Fits, Widened};
+ghost use Rattle.wide.specs.Wide.{wideOf, wideAt, FitsWide, Widened};
 
 use packed::word_at;
 use table::entry;
@@ -23,7 +23,7 @@ fn unpack(word: u64) -> Entry
 
 // Puts the fields of an entry into a word.
 fn pack(e: Entry) -> u64
-    requires { ⌜ Fits e ⌝ }
+    requires { ⌜ FitsWide e ⌝ }
     ensures { λ r. ⌜ wideOf r ≡ e ⌝ }
 {
     (e.kind as u64) * 1152921504606846976
