@@ -4,3 +4,5 @@ pub mod Splitting
 pub mod Promises
 -- the counting entries, entry by entry
 pub mod Counted
+-- from worlds to relations and back
+pub mod Worlds

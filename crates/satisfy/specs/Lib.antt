@@ -5,3 +5,5 @@ pub mod World
 pub mod Promise
 -- the counting entries and their relations
 pub mod Relation
+-- what the functions that call each other ask and answer
+pub mod Asking

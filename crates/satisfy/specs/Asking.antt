@@ -1,0 +1,66 @@
+-- What the functions of the decision that call each other ask, and what they answer.
+use mathlib.Core.Path.{_≡_}
+use mathlib.Core.Bool.{Bool, true, false}
+use mathlib.Core.List.{List}
+use Prim.Native.Nat.{ℕ, suc, _+_, _-_, _*_, _<_, _≤_}
+use lib.ListN.{length, take}
+use Rattle.semantics.specs.Structure.{Structure}
+use Rattle.sets.specs.declared.Set.{Set}
+use Rattle.sets.specs.Set.{member, code, Within}
+use Rattle.sets.specs.Word.{Greatest}
+use Rattle.table.specs.declared.entry.Entry.{Entry}
+use Rattle.table.specs.Space.{gradeSum}
+use Rattle.tableau.specs.Wants.{Answers}
+use Rattle.tableau.specs.Counting.{Solution}
+use Rattle.tableau.specs.Search.{Problem, asking, Fit}
+use Rattle.wants.specs.declared.Wants.{Wants}
+use Rattle.wants.specs.Outcome.{MeetsW}
+use Rattle.satisfy.specs.World.{SatW, CaseOf, Ready}
+use Rattle.satisfy.specs.Promise.{Promising}
+use Rattle.satisfy.specs.Relation.{counting}
+
+-- There are words for this depth: a level of them for each depth down to 0, and a level has room for the stack of a search.
+pub record Roomy (entry : ℕ → Entry) (n depth level words : ℕ) : Type 0 where
+  pub stack : 2 * gradeSum entry n + 2 ≤ level
+  pub levels : suc depth * level ≤ words
+
+module _ (entry : ℕ → Entry) where
+  pub record WorldAsked (n : ℕ) (w : Wants) (bound depth level words : ℕ) : Type 0 where
+    pub ready : Ready entry n w bound depth
+    pub small : bound ≤ 64
+    pub room : Roomy entry n depth level words
+
+  -- entry d is the highest that is pending
+  pub record CaseAsked (n : ℕ) (w : Wants) (d depth level words : ℕ) : Type 0 where
+    pub ready : Ready entry n w 64 depth
+    pub top : Greatest (member (w .pending)) d
+    pub small : d < 64
+    pub room : Roomy entry n depth level words
+
+  -- yes: some world is as wanted; no: none is that falls under the case
+  abbrev pub CaseAnswers : Wants → ℕ → Bool → Bool → Type 0
+  CaseAnswers w d case true = SatW entry w
+  CaseAnswers w d case false = (s : Structure) (u : ℕ) → u < s .worlds → MeetsW entry s u w → CaseOf entry case d s u → ⊥
+
+  -- nothing is pending
+  pub record LeafAsked (n : ℕ) (w : Wants) (depth level words : ℕ) : Type 0 where
+    pub ready : Ready entry n w 0 depth
+    pub room : Roomy entry n depth level words
+
+  -- the relations of the counting entries that are not in `rest` have solutions
+  pub record Solving (w : Wants) (rest : ℕ → Bool) : Type 0 where
+    pub within : Within rest (λ i. counting w (entry i) i)
+    pub solved : (i : ℕ) → counting w (entry i) i ≡ true → rest i ≡ false → Solution entry (member (w .yes)) (member (w .no)) (entry i .name)
+
+module _ (P : Problem) where
+  -- a problem at a world of this depth, which is not 0
+  pub record ProblemAsked (all : Set) (depth level words : ℕ) : Type 0 where
+    pub promising : Promising P (asking P) (depth - 1)
+    pub deep : 0 < depth
+    pub all-asking : member all ≡ asking P
+    pub room : Roomy (P .entry) (P .n) depth level words
+
+  -- can the promises be kept; the words of the level are as before
+  pub record Kept (promises : Set) (level : ℕ) (before after : List ℕ) (r : Bool) : Type 0 where
+    pub answers : Answers r (Fit P (code promises))
+    pub same : take level after ≡ take level before
