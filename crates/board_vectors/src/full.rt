@@ -10,12 +10,17 @@ use vectors::entries::not;
 use vectors::tally::Tally;
 
 const ALL: u64 = 0xffff_ffff_ffff_ffff;
+
 const WORLD_63: u64 = 0x8000_0000_0000_0000;
+
 const BELOW_63: u64 = 0x7fff_ffff_ffff_ffff;
 
 // Entries 0 to 2: true; fact 1, at world 63; not fact 1.
 fn parts() -> Rows {
-    Rows::none().entry(TRUE, ALL).entry(fact(1), WORLD_63).entry(not(1), BELOW_63)
+    Rows::none()
+        .entry(TRUE, ALL)
+        .entry(fact(1), WORLD_63)
+        .entry(not(1), BELOW_63)
 }
 
 // World 63 leads to all 64 worlds.
@@ -24,10 +29,19 @@ pub fn all_linked(before: Tally) -> Tally {
     for to in 0..64 {
         records = records.link(63, 7, to);
     }
-    let mut rows = parts().entry(at_least(64, 7, 0), WORLD_63).entry(at_least(65, 7, 0), 0).entry(at_most(64, 7, 0), ALL);
-    rows = rows.entry(at_most(63, 7, 0), BELOW_63).entry(at_least(255, 7, 0), 0).entry(at_most(255, 7, 0), ALL);
-    rows = rows.entry(at_least(63, 7, 2), WORLD_63).entry(at_least(64, 7, 2), 0).entry(at_most(63, 7, 2), ALL);
-    rows = rows.entry(at_most(62, 7, 2), BELOW_63).entry(at_least(1, 7, 1), WORLD_63).entry(at_least(0, 7, 0), ALL);
+    let mut rows = parts()
+        .entry(at_least(64, 7, 0), WORLD_63)
+        .entry(at_least(65, 7, 0), 0)
+        .entry(at_most(64, 7, 0), ALL);
+    rows = rows.entry(at_most(63, 7, 0), BELOW_63)
+        .entry(at_least(255, 7, 0), 0)
+        .entry(at_most(255, 7, 0), ALL);
+    rows = rows.entry(at_least(63, 7, 2), WORLD_63)
+        .entry(at_least(64, 7, 2), 0)
+        .entry(at_most(63, 7, 2), ALL);
+    rows = rows.entry(at_most(62, 7, 2), BELOW_63)
+        .entry(at_least(1, 7, 1), WORLD_63)
+        .entry(at_least(0, 7, 0), ALL);
     answers(before.subject(15000), rows, records)
 }
 
@@ -37,8 +51,13 @@ pub fn self_links(before: Tally) -> Tally {
     for world in 0..64 {
         records = records.link(world, 7, world);
     }
-    let mut rows = parts().entry(at_least(1, 7, 0), ALL).entry(at_least(2, 7, 0), 0).entry(at_most(0, 7, 0), 0);
-    rows = rows.entry(at_least(1, 7, 1), WORLD_63).entry(at_most(0, 7, 1), BELOW_63).entry(at_least(1, 7, 2), BELOW_63);
+    let mut rows = parts()
+        .entry(at_least(1, 7, 0), ALL)
+        .entry(at_least(2, 7, 0), 0)
+        .entry(at_most(0, 7, 0), 0);
+    rows = rows.entry(at_least(1, 7, 1), WORLD_63)
+        .entry(at_most(0, 7, 1), BELOW_63)
+        .entry(at_least(1, 7, 2), BELOW_63);
     answers(before.subject(16000), rows, records)
 }
 
@@ -83,12 +102,31 @@ fn many_links() -> Records {
 }
 
 pub fn records(before: Tally) -> Tally {
-    let mut same = Rows::none().entry(TRUE, 7).entry(at_least(1, 7, 0), 1).entry(at_least(2, 7, 0), 0);
-    same = same.entry(at_least(255, 7, 0), 0).entry(at_most(1, 7, 0), 7).entry(at_most(255, 7, 0), 7);
-    let tally = answers(before.subject(18000), same.entry(at_most(0, 7, 0), 6), same_link());
-    let mut many = Rows::none().entry(TRUE, ALL).entry(at_least(15, 7, 0), ALL).entry(at_least(16, 7, 0), BELOW_63);
-    many = many.entry(at_least(17, 7, 0), 0).entry(at_most(15, 7, 0), WORLD_63).entry(at_most(16, 7, 0), ALL);
-    answers(tally, many.entry(at_most(14, 7, 0), 0).entry(at_least(16, 7, 1), BELOW_63), many_links())
+    let mut same = Rows::none()
+        .entry(TRUE, 7)
+        .entry(at_least(1, 7, 0), 1)
+        .entry(at_least(2, 7, 0), 0);
+    same = same.entry(at_least(255, 7, 0), 0)
+        .entry(at_most(1, 7, 0), 7)
+        .entry(at_most(255, 7, 0), 7);
+    let tally = answers(
+        before.subject(18000),
+        same.entry(at_most(0, 7, 0), 6),
+        same_link(),
+    );
+    let mut many = Rows::none()
+        .entry(TRUE, ALL)
+        .entry(at_least(15, 7, 0), ALL)
+        .entry(at_least(16, 7, 0), BELOW_63);
+    many = many.entry(at_least(17, 7, 0), 0)
+        .entry(at_most(15, 7, 0), WORLD_63)
+        .entry(at_most(16, 7, 0), ALL);
+    answers(
+        tally,
+        many.entry(at_most(14, 7, 0), 0)
+            .entry(at_least(16, 7, 1), BELOW_63),
+        many_links(),
+    )
 }
 
 // World i leads to world i + 1 only, fact 1 holds at world 63: 1,024 records, most of them repeated.
@@ -102,7 +140,10 @@ fn path() -> Records {
 
 // Entry i, from 1 on, in a chain of "at least 1" over fact 1: true where i links lead to world 63.
 fn with_least(rows: Rows, i: u32) -> Rows {
-    rows.entry(at_least(1, 7, std::num::wrapping_sub_u32(i, 1)), only(std::num::wrapping_sub_u32(63, i)))
+    rows.entry(
+        at_least(1, 7, std::num::wrapping_sub_u32(i, 1)),
+        only(std::num::wrapping_sub_u32(63, i)),
+    )
 }
 
 fn least_chain() -> Rows {
@@ -118,7 +159,8 @@ fn least_chain() -> Rows {
 // one after it where nothing leads on to such a world.
 fn with_most(rows: Rows, first: u32, seen: u64) -> Rows {
     let second = std::num::wrapping_add_u32(first, 1);
-    rows.entry(at_most(0, 7, first), ALL - seen / 2).entry(at_most(0, 7, second), seen / 4 | WORLD_63)
+    rows.entry(at_most(0, 7, first), ALL - seen / 2)
+        .entry(at_most(0, 7, second), seen / 4 | WORLD_63)
 }
 
 fn most_chain() -> Rows {

@@ -24,7 +24,10 @@ pub fn link_record(from: u32, relation: u32, to: u32) -> u32 {
 
 impl Records {
     pub fn none() -> Records {
-        Records { bytes: [0u8; 3075], length: 0 }
+        Records {
+            bytes: [0u8; 3075],
+            length: 0,
+        }
     }
 
     // A structure of so many worlds, of which nothing is stated yet.
@@ -42,7 +45,10 @@ impl Records {
         bytes[at] = (bits / 0x1_0000 % 256) as u8;
         bytes[at + 1] = (bits / 0x100 % 256) as u8;
         bytes[at + 2] = (bits % 256) as u8;
-        Records { bytes: bytes, length: at + 3 }
+        Records {
+            bytes: bytes,
+            length: at + 3,
+        }
     }
 
     pub fn fact(self, world: u32, name: u32) -> Records {
@@ -56,6 +62,9 @@ impl Records {
     // The same bytes, so many of them.
     pub fn cut(self, length: usize) -> Records {
         let bytes = self.bytes;
-        Records { bytes: bytes, length: length }
+        Records {
+            bytes: bytes,
+            length: length,
+        }
     }
 }

@@ -34,7 +34,9 @@ fn longest() -> Records {
 
 // A length that is accepted, with the worlds of fact 0 and fact 15 that the records then state.
 fn length_case(tally: Tally, records: Records, length: usize, fact_0: u64, fact_15: u64) -> Tally {
-    let rows = true_at(0xffff_ffff_ffff_ffff).entry(fact(0), fact_0).entry(fact(15), fact_15);
+    let rows = true_at(0xffff_ffff_ffff_ffff)
+        .entry(fact(0), fact_0)
+        .entry(fact(15), fact_15);
     answers(tally, rows, records.cut(length))
 }
 
@@ -51,10 +53,22 @@ pub fn lengths(before: Tally) -> Tally {
     tally = length_case(tally, records, 6, 2, 0);
     tally = refused(tally, records.cut(7), 6);
     // Around 1,024 records, the most; the last states fact 15 at world 63.
-    tally = length_case(tally, records, 3069, 0xffff_ffff_ffff_fffe, 0x7fff_ffff_ffff_ffff);
+    tally = length_case(
+        tally,
+        records,
+        3069,
+        0xffff_ffff_ffff_fffe,
+        0x7fff_ffff_ffff_ffff,
+    );
     tally = refused(tally, records.cut(3070), 6);
     tally = refused(tally, records.cut(3071), 6);
-    tally = length_case(tally, records, 3072, 0xffff_ffff_ffff_fffe, 0xffff_ffff_ffff_ffff);
+    tally = length_case(
+        tally,
+        records,
+        3072,
+        0xffff_ffff_ffff_fffe,
+        0xffff_ffff_ffff_ffff,
+    );
     tally = refused(tally, records.cut(3073), 6);
     tally = refused(tally, records.cut(3074), 6);
     // 1,025 records.
@@ -75,7 +89,11 @@ pub fn misplaced(before: Tally) -> Tally {
     tally = refused(tally, Records::of(3).record(header(4)), 7);
     tally = refused(tally, Records::of(1).record(header(1)), 7);
     tally = refused(tally, Records::of(3).fact(0, 1).record(header(3)), 7);
-    tally = refused(tally, Records::of(3).fact(0, 1).link(0, 7, 1).record(header(3)), 7);
+    tally = refused(
+        tally,
+        Records::of(3).fact(0, 1).link(0, 7, 1).record(header(3)),
+        7,
+    );
     // Kind 3: empty, with fields, as the last record, before the last.
     tally = refused(tally, Records::of(3).record(0xc0_0000), 7);
     tally = refused(tally, Records::of(3).record(0xc1_0704), 7);
@@ -102,7 +120,11 @@ pub fn zero_bits(before: Tally) -> Tally {
     let three = Records::of(3);
     let mut tally = before.subject(4000);
     tally = zero_bit_cases(tally, Records::none(), header(3), 0x8000);
-    tally = answers(tally, true_at(15), Records::none().record(header(3) | 0x1_0000));
+    tally = answers(
+        tally,
+        true_at(15),
+        Records::none().record(header(3) | 0x1_0000),
+    );
     tally = zero_bit_cases(tally, three, fact_record(1, 2), 0x80);
     tally = answers(tally, true_at(7), three.record(fact_record(1, 2) | 0x100));
     tally = zero_bit_cases(tally, three, link_record(1, 7, 2), 2);
@@ -121,7 +143,10 @@ fn outside(before: Tally, worlds: u32, world: u32) -> Tally {
 // Fact 1 at the last world, whose word is `top`, and a link by 7 from it to itself.
 fn inside(tally: Tally, worlds: u32, all: u64, top: u64) -> Tally {
     let last = std::num::wrapping_sub_u32(worlds, 1);
-    let records = Records::of(worlds).fact(last, 1).link(last, 7, last).link(last, 8, 0);
+    let records = Records::of(worlds)
+        .fact(last, 1)
+        .link(last, 7, last)
+        .link(last, 8, 0);
     let mut rows = true_at(all).entry(fact(1), top);
     rows = rows.entry(at_least(1, 7, 1), top);
     answers(tally, rows.entry(at_least(1, 8, 0), top), records)
@@ -161,9 +186,21 @@ fn space_cases(before: Tally, entries: usize) -> Tally {
     let rows = true_entries(entries);
     let one = Records::of(1);
     let mut tally = lends(before, rows, one, 0, 10);
-    tally = lends(tally, rows, one, std::num::wrapping_sub_usize(entries, 1), 10);
+    tally = lends(
+        tally,
+        rows,
+        one,
+        std::num::wrapping_sub_usize(entries, 1),
+        10,
+    );
     tally = lends(tally, rows, one, entries, 0);
-    lends(tally, rows, one, std::num::wrapping_add_usize(entries, 1), 0)
+    lends(
+        tally,
+        rows,
+        one,
+        std::num::wrapping_add_usize(entries, 1),
+        0,
+    )
 }
 
 pub fn space(before: Tally) -> Tally {
@@ -242,7 +279,13 @@ fn earliest(first: u8, second: u8, third: u8) -> u8 {
 fn order_case(before: Tally, of_table: u8, of_structure: u8) -> Tally {
     let rows = table_with(of_table);
     let records = structure_with(of_structure);
-    let tally = lends(before, rows, records, 3, earliest(of_table, of_structure, 10));
+    let tally = lends(
+        before,
+        rows,
+        records,
+        3,
+        earliest(of_table, of_structure, 10),
+    );
     lends(tally, rows, records, 4, earliest(of_table, of_structure, 0))
 }
 

@@ -24,7 +24,11 @@ pub struct Rows {
 
 impl Rows {
     pub fn none() -> Rows {
-        Rows { table: [0u8; 260], bytes: 0, words: before() }
+        Rows {
+            table: [0u8; 260],
+            bytes: 0,
+            words: before(),
+        }
     }
 
     // One more entry, and its word.
@@ -37,13 +41,21 @@ impl Rows {
         }
         put(&mut table, i, entry);
         words[i] = word;
-        Rows { table: table, bytes: 4 * i + 4, words: words }
+        Rows {
+            table: table,
+            bytes: 4 * i + 4,
+            words: words,
+        }
     }
 
     // The same bytes, so many of them.
     pub fn cut(self, bytes: usize) -> Rows {
         let table = self.table;
         let words = self.words;
-        Rows { table: table, bytes: bytes, words: words }
+        Rows {
+            table: table,
+            bytes: bytes,
+            words: words,
+        }
     }
 }

@@ -4,7 +4,6 @@ ghost use mathlib.Core.Path.{_≡_};
 ghost use lib.ListN.{length};
 ghost use Rattle.table.specs.Check.{tableVerdict};
 ghost use Rattle.truth_table.specs.Board.{boardVerdict, BoardAfter};
-
 use faults::Verdict;
 
 // Whether a table is accepted; if not, its first fault in document 01's order, a number from 1 to 5.

@@ -7,7 +7,11 @@ ghost use lib.ListN.{getD};
 pub fn byte_at(bytes: &[u8], at: usize) -> u32
     ensures { λ r. ⌜ (r ≡ getD (now (bytes .entry)) at 0) × (r < 256) ⌝ }
 {
-    if at < bytes.len() { bytes[at] as u32 } else { 0 }
+    if at < bytes.len() {
+        bytes[at] as u32
+    } else {
+        0
+    }
 }
 
 // The 64-bit word at a place, 0 past the end.

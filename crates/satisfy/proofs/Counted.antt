@@ -20,7 +20,7 @@ use Rattle.satisfy.specs.Relation.{counting, Bounded, QuestionOf}
 
 -- by its own relation an entry asks for what it bounds
 pub asks-own : {e : Entry} {w : Wants} {q : Question} → QuestionOf e w q → (i : ℕ) (c : Bool)
-  → asks q e i c ≡ bound (member (w .yes)) (member (w .no)) e i c
+    → asks q e i c ≡ bound (member (w .yes)) (member (w .no)) e i c
 asks-own {e} own i c = rw (own .yes, own .no, own .relation, eq-eqb (e .name) (e .name) refl)
 
 untrue : (x : Bool) → (x ≡ true → ⊥) → x ≡ false
@@ -34,7 +34,7 @@ counting-none {n} {w} bounded e i g =
     simp (unwanted true, unwanted false, and-false)
 
 pub counted-all : {n : ℕ} {w : Wants} → Bounded n w → (entry : ℕ → Entry) {found : ℕ → Bool} → Upto (λ i. counting w (entry i) i) n found
-  → found ≡ (λ i. counting w (entry i) i)
+    → found ≡ (λ i. counting w (entry i) i)
 counted-all {n} bounded entry u =
     fun-ext (λ j. by-cases (decLt j n) (λ (l : j < n). u .below j l)
     (λ (g : ¬ (j < n)). let past : n ≤ j = omega arith in u .behind j past ∙ sym (counting-none bounded (entry j) j past)))

@@ -57,23 +57,30 @@ module _ (entry : ℕ → Entry) (n e : ℕ) (w : Wants) where
     grows = taken .grows;
     has = λ c h. rw (only-so b c h) (taken .has);
     meets = λ s v m so. taken .meets s v m (so b (only-self b));
-    shallow = λ d le before c i h. ⊎-elim (before c i) (λ (l : depthAt entry i ≤ depthAt entry e). le-trans l le) (taken .no-deeper c i h) }
+    shallow = λ d le before c i h. ⊎-elim (before c i) (λ (l : depthAt entry i ≤ depthAt entry e). le-trans l le) (taken .no-deeper c i h);
+  }
   held-one b Outcome.Clash clash = λ s v m so. clash s v m (so b (only-self b))
 
   pub held-none : (b : Bool) → SettledW entry n w → AllIs entry n (onlyIf false b) e w (Outcome.Settled w)
   held-none b settled = record {
-    settled = settled; grows = λ c i h. h; has = λ c h. absurd (only-not b c h); meets = λ s v m so. m; shallow = λ d le before. before }
+    settled = settled;
+    grows = λ c i h. h;
+    has = λ c h. absurd (only-not b c h);
+    meets = λ s v m so. m;
+    shallow = λ d le before. before;
+  }
 
   module _ (asked : Bool → Bool) where
     -- true if that is asked, and then false if that is
     pub held-both : {u : Wants} → Held entry n (onlyIf (asked true) true) e w u → (r : Outcome)
-      → AllIs entry n (onlyIf (asked false) false) e u r → AllIs entry n asked e w r
+        → AllIs entry n (onlyIf (asked false) false) e u r → AllIs entry n asked e w r
     held-both {u} one (Outcome.Settled w′) two = record {
       settled = two .settled;
       grows = λ c i h. two .grows c i (one .grows c i h);
       has = elim [ true ↦ λ h. two .grows true e (one .has true h) | false ↦ λ h. two .has false h ];
       meets = λ s v m so. two .meets s v (one .meets s v m (only-of asked _ so true)) (only-of asked _ so false);
-      shallow = λ d le before. two .shallow d le (one .shallow d le before) }
+      shallow = λ d le before. two .shallow d le (one .shallow d le before);
+    }
     held-both one Outcome.Clash two = λ s v m so. two s v (one .meets s v m (only-of asked _ so true)) (only-of asked _ so false)
 
     pub held-clash : AllIs entry n (onlyIf (asked true) true) e w Outcome.Clash → AllIs entry n asked e w Outcome.Clash
@@ -85,7 +92,8 @@ empty-settled entry n = record {
   below = elim [ true ↦ λ i h. absurd (false≢true h) | false ↦ λ i h. absurd (false≢true h) ];
   treated = elim [ true ↦ λ i h. absurd (false≢true h) | false ↦ λ i h. absurd (false≢true h) ];
   splits = λ i h. absurd (false≢true h);
-  facts = λ i h. absurd (false≢true h) }
+  facts = λ i h. absurd (false≢true h);
+}
 
 -- a counting entry uses its first reference, and is one deeper than it
 counting-uses : (b c : Bool) (k : ℕ) → k ≡ boundKind b c → usesOf k .first ≡ true
@@ -122,17 +130,21 @@ module _ (P : Problem) (promises : ℕ → Bool) (depth : ℕ) (all : Promising 
   part-asked settled i h =
       let (b, c, want, k) = counting-of i h in
       record {
-        formed = all .formed; few = all .few; settled = settled;
-        inside = omega (arith, all .below b i want, all .formed i (all .below b i want) .first (counting-uses b c _ k)) }
+        formed = all .formed;
+        few = all .few;
+        settled = settled;
+        inside = omega (arith, all .below b i want, all .formed i (all .below b i want) .first (counting-uses b c _ k));
+      }
 
   part-depth : (i : ℕ) → promises i ≡ true → depthAt (P .entry) (P .entry i .first) ≤ depth
   part-depth i h =
       let (b, c, want, k) = counting-of i h in
-      omega
-      (arith
-      , all .shallow b i want
-      , depth-rule (all .formed) i (all .below b i want)
-      , counting-depth b c _ (depthAt (P .entry) (P .entry i .first)) (depthAt (P .entry) (P .entry i .second)) k)
+      omega (
+        arith,
+        all .shallow b i want,
+        depth-rule (all .formed) i (all .below b i want),
+        counting-depth b c _ (depthAt (P .entry) (P .entry i .first)) (depthAt (P .entry) (P .entry i .second)) k,
+      )
 
   pub partly-none : (v : Wants) → member (v .yes) ≡ nothing → member (v .no) ≡ nothing → member (v .pending) ≡ nothing → Partly P promises promises depth v
   partly-none v y n p = record {
@@ -140,26 +152,28 @@ module _ (P : Problem) (promises : ℕ → Bool) (depth : ℕ) (all : Promising 
     shallow = rw (y, n) (elim [ true ↦ λ i h. absurd (false≢true h) | false ↦ λ i h. absurd (false≢true h) ]);
     within = λ i h. h;
     covers = λ c i h out. absurd (false≢true (sym out ∙ h));
-    follows = λ s u keeps. rw (y, n) (record { as-wanted = elim [ true ↦ λ i h. absurd (false≢true h) | false ↦ λ i h. absurd (false≢true h) ] }) }
+    follows = λ s u keeps. rw (y, n) (record { as-wanted = elim [ true ↦ λ i h. absurd (false≢true h) | false ↦ λ i h. absurd (false≢true h) ] });
+  }
 
   module _ {rest : ℕ → Bool} {v : Wants} (part : Partly P promises rest depth v) where
     pub partly-next : {u : Wants} (i : ℕ) → rest i ≡ true
-      → Held (P .entry) (P .n) (λ c. eqb (P .entry i .name) (P .relation) && bound (P .yes) (P .no) (P .entry i) i c) (P .entry i .first) v u
-      → Partly P promises (removed rest i) depth u
+        → Held (P .entry) (P .n) (λ c. eqb (P .entry i .name) (P .relation) && bound (P .yes) (P .no) (P .entry i) i c) (P .entry i .first) v u
+        → Partly P promises (removed rest i) depth u
     partly-next {u} i h held = record {
       settled = held .settled;
       shallow = held .shallow depth (part-depth i (part .within i h)) (part .shallow);
       within = λ j r. part .within j (both-parts true (not (eqb j i)) (rest j) r .1);
       covers = λ c j p out bounds.
-        by-cases (ℕ-discrete j i)
-        (λ (e : j ≡ i). rw e (held .has c (both-made true (named i (part .within i h)) (rw e at bounds))))
-        (λ (other : j ≡ i → ⊥). held .grows c _ (part .covers c j p (sym (rw (ne-eqb j i other)) ∙ out) bounds));
+          by-cases (ℕ-discrete j i)
+          (λ (e : j ≡ i). rw e (held .has c (both-made true (named i (part .within i h)) (rw e at bounds))))
+          (λ (other : j ≡ i → ⊥). held .grows c _ (part .covers c j p (sym (rw (ne-eqb j i other)) ∙ out) bounds));
       follows = λ s u keeps. held .meets s u (part .follows s u keeps)
-        (λ c asked. keeps c i (part .within i h) (both-parts true (eqb (P .entry i .name) (P .relation)) _ asked .1)) }
+          (λ c asked. keeps c i (part .within i h) (both-parts true (eqb (P .entry i .name) (P .relation)) _ asked .1));
+    }
 
     pub partly-clash : (i : ℕ) → rest i ≡ true
-      → AllIs (P .entry) (P .n) (λ c. eqb (P .entry i .name) (P .relation) && bound (P .yes) (P .no) (P .entry i) i c) (P .entry i .first) v Outcome.Clash
-      → PromisedIs P promises depth Outcome.Clash
+        → AllIs (P .entry) (P .n) (λ c. eqb (P .entry i .name) (P .relation) && bound (P .yes) (P .no) (P .entry i) i c) (P .entry i .first) v Outcome.Clash
+        → PromisedIs P promises depth Outcome.Clash
     partly-clash i h clash here =
         clash (here .structure) (here .world) (part .follows (here .structure) (here .world) (here .keeps))
         (λ c asked. here .keeps c i (part .within i h) (both-parts true (eqb (P .entry i .name) (P .relation)) _ asked .1))
@@ -167,8 +181,17 @@ module _ (P : Problem) (promises : ℕ → Bool) (depth : ℕ) (all : Promising 
     pub partly-all : rest ≡ nothing → Promised P promises depth v
     partly-all none = record {
       ready = record {
-        formed = all .formed; few = all .few; settled = part .settled; shallow = part .shallow;
-        pending-below = λ i h. let (b, want, k) = part .settled .splits i h in omega (arith, part .settled .below b i want, all .few) };
+        formed = all .formed;
+        few = all .few;
+        settled = part .settled;
+        shallow = part .shallow;
+        pending-below = λ i h. let (b, want, k) = part .settled .splits i h in omega (arith, part .settled .below b i want, all .few);
+      };
       sound = sat-feasible (λ c i p. part .covers c i p (ap (λ (r : ℕ → Bool). r i) none));
       complete = λ here. record {
-        structure = here .structure; world = here .world; inside = here .inside; meets = part .follows (here .structure) (here .world) (here .keeps) } }
+        structure = here .structure;
+        world = here .world;
+        inside = here .inside;
+        meets = part .follows (here .structure) (here .world) (here .keeps);
+      };
+    }

@@ -71,7 +71,7 @@ module _ {entry : ℕ → Entry} {n d depth : ℕ} {w : Wants} (ready : Ready en
   -- what a part brings in is below the entry that is split, and no deeper than allowed
   module _ {v₁ v : Wants} {c : Bool} {i : ℕ} (taken : Taken entry n c i v₁ v) (smaller : i < d) (flat : depthAt entry i ≤ depth) where
     pending-next : ((j : ℕ) → member (v₁ .pending) j ≡ true → (member (w .pending) j ≡ true) ⊎ (j < d))
-      → (j : ℕ) → member (v .pending) j ≡ true → (member (w .pending) j ≡ true) ⊎ (j < d)
+        → (j : ℕ) → member (v .pending) j ≡ true → (member (w .pending) j ≡ true) ⊎ (j < d)
     pending-next before j h = ⊎-elim (before j) (λ (l : j ≤ i). inr (omega arith)) (taken .pending-new j h)
 
     shallow-next : ((c : Bool) (j : ℕ) → wantedW v₁ c j ≡ true → depthAt entry j ≤ depth) → (c : Bool) (j : ℕ) → wantedW v c j ≡ true → depthAt entry j ≤ depth
@@ -79,24 +79,29 @@ module _ {entry : ℕ → Entry} {n d depth : ℕ} {w : Wants} (ready : Ready en
 
   -- v holds what a case wants, and the entry is split
   branched : (case : Bool) (v u : Wants) → SettledW entry n v → GrowsW w v
-    → wantedW v (serving entry d) (entry d .first) || wantedW v (serving entry d) (entry d .second) ≡ true
-    → ((j : ℕ) → member (v .pending) j ≡ true → (member (w .pending) j ≡ true) ⊎ (j < d))
-    → ((c : Bool) (j : ℕ) → wantedW v c j ≡ true → depthAt entry j ≤ depth)
-    → ((s : Structure) (x : ℕ) → MeetsW entry s x w → CaseOf entry case d s x → MeetsW entry s x v)
-    → Lightened d (Outcome.Settled v) (Outcome.Settled u) → Branch entry n case d w depth u
+      → wantedW v (serving entry d) (entry d .first) || wantedW v (serving entry d) (entry d .second) ≡ true
+      → ((j : ℕ) → member (v .pending) j ≡ true → (member (w .pending) j ≡ true) ⊎ (j < d))
+      → ((c : Bool) (j : ℕ) → wantedW v c j ≡ true → depthAt entry j ≤ depth)
+      → ((s : Structure) (x : ℕ) → MeetsW entry s x w → CaseOf entry case d s x → MeetsW entry s x v)
+      → Lightened d (Outcome.Settled v) (Outcome.Settled u) → Branch entry n case d w depth u
   branched case v u settled grows part pending shallow complete light = record {
     ready = record {
       formed = ready .formed;
       few = ready .few;
       settled = rw (light .0, light .1, light .2) (split-settled settled (serving entry d) d kind-is part);
       pending-below = λ j h.
-        let parts = both-parts true (not (eqb j d)) (member (v .pending) j) (ap (λ (p : ℕ → Bool). p j) (sym (light .2)) ∙ h) in
-        ⊎-elim (λ (old : member (w .pending) j ≡ true). below-top j old (eqb-false j d (not-true (eqb j d) (parts .0)))) (λ (l : j < d). l) (pending j (parts .1));
-      shallow = rw (light .0, light .1) shallow };
+          let parts = both-parts true (not (eqb j d)) (member (v .pending) j) (ap (λ (p : ℕ → Bool). p j) (sym (light .2)) ∙ h) in
+          ⊎-elim (λ (old : member (w .pending) j ≡ true). below-top j old (eqb-false j d (not-true (eqb j d) (parts .0)))) (λ (l : j < d). l) (pending j (parts .1));
+      shallow = rw (light .0, light .1) shallow;
+    };
     sound = λ sat. record {
-      structure = sat .structure; world = sat .world; inside = sat .inside;
-      meets = meets-fewer grows (rw (← light .0, ← light .1) (sat .meets)) };
-    complete = λ s x m case-of. rw (light .0, light .1) (complete s x m case-of) }
+      structure = sat .structure;
+      world = sat .world;
+      inside = sat .inside;
+      meets = meets-fewer grows (rw (← light .0, ← light .1) (sat .meets));
+    };
+    complete = λ s x m case-of. rw (light .0, light .1) (complete s x m case-of);
+  }
     where
       below-top : (j : ℕ) → member (w .pending) j ≡ true → (j ≡ d → ⊥) → j < d
       below-top j h other = elim (decLt j d) [ yes l ↦ l | no g ↦ absurd (false≢true (sym (top .above j (omega arith)) ∙ h)) ]
@@ -110,7 +115,7 @@ module _ {entry : ℕ → Entry} {n d depth : ℕ} {w : Wants} (ready : Ready en
   first-branch Outcome.Clash Outcome.Clash clash light = clash
 
   pub second-branch : {v₁ : Wants} → Taken entry n (not (serving entry d)) (entry d .first) w v₁ → (o r : Outcome)
-    → OutcomeIs entry n (serving entry d) (entry d .second) v₁ o → Lightened d o r → BranchIs entry n false d w depth r
+      → OutcomeIs entry n (serving entry d) (entry d .second) v₁ o → Lightened d o r → BranchIs entry n false d w depth r
   second-branch {v₁} one (Outcome.Settled v) (Outcome.Settled u) taken light =
       branched false v u (taken .settled) (λ c i h. taken .grows c i (one .grows c i h)) (rw (taken .has, or-true) refl)
       (pending-next taken second-below (part-depths .1) (pending-next one first-below (part-depths .0) (λ j h. inl h)))

@@ -43,17 +43,19 @@ module _ (entry : ℕ → Entry) (w : Wants) where
   pub solving-none : (p : ℕ → Bool) → p ≡ (λ i. counting w (entry i) i) → Solving entry w p
   solving-none p is = record {
     within = λ i h. ap (λ (q : ℕ → Bool). q i) (sym is) ∙ h;
-    solved = λ i h out. absurd (false≢true (sym out ∙ ap (λ (q : ℕ → Bool). q i) is ∙ h)) }
+    solved = λ i h out. absurd (false≢true (sym out ∙ ap (λ (q : ℕ → Bool). q i) is ∙ h));
+  }
 
   -- the relation of entry i has a solution: all that speaks of it is done
   pub solving-next : {rest : ℕ → Bool} (i : ℕ) → Solving entry w rest → Solution entry (member (w .yes)) (member (w .no)) (entry i .name)
-    → (all : ℕ → Bool) → all ≡ (λ j. speaks (member (w .yes)) (member (w .no)) (entry j) j (entry i .name)) → Solving entry w (butNot rest all)
+      → (all : ℕ → Bool) → all ≡ (λ j. speaks (member (w .yes)) (member (w .no)) (entry j) j (entry i .name)) → Solving entry w (butNot rest all)
   solving-next {rest} i solving solution all is = record {
     within = λ j h. solving .within j (both-parts true (rest j) _ h .0);
-    solved = λ j h out. by-rest j h (rest j) refl (all j) refl out }
+    solved = λ j h out. by-rest j h (rest j) refl (all j) refl out;
+  }
     where
       by-rest : (j : ℕ) → counting w (entry j) j ≡ true → (r : Bool) → rest j ≡ r → (a : Bool) → all j ≡ a → butNot rest all j ≡ false
-        → Solution entry (member (w .yes)) (member (w .no)) (entry j .name)
+          → Solution entry (member (w .yes)) (member (w .no)) (entry j .name)
       by-rest j h false out a here gone = solving .solved j h out
       by-rest j h true in-rest true here gone =
           let named = both-parts true (eqb (entry j .name) (entry i .name)) _ (ap (λ (q : ℕ → Bool). q j) (sym is) ∙ here) .0 in

@@ -24,7 +24,7 @@ module _ (entry : ℕ → Entry) (n : ℕ) where
     pub has : (b : Bool) → asked b ≡ true → wantedW w′ b e ≡ true
     pub meets : (s : Structure) (v : ℕ) → MeetsW entry s v w → ((b : Bool) → asked b ≡ true → truthAt entry s v e ≡ b) → MeetsW entry s v w′
     pub shallow : (d : ℕ) → depthAt entry e ≤ d → ((c : Bool) (i : ℕ) → wantedW w c i ≡ true → depthAt entry i ≤ d)
-      → (c : Bool) (i : ℕ) → wantedW w′ c i ≡ true → depthAt entry i ≤ d
+        → (c : Bool) (i : ℕ) → wantedW w′ c i ≡ true → depthAt entry i ≤ d
 
   abbrev pub AllIs : (Bool → Bool) → ℕ → Wants → Outcome → Type 0
   AllIs asked e w (Outcome.Settled w′) = Held asked e w w′

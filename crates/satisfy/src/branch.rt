@@ -8,7 +8,6 @@ ghost use Rattle.sets.specs.Word.{Greatest};
 ghost use Rattle.wide.specs.Wide.{wideAt};
 ghost use Rattle.wants.specs.Outcome.{Asked, OutcomeIs};
 ghost use Rattle.satisfy.specs.World.{Ready, BranchIs, Lightened};
-
 use wants::Outcome;
 use wants::Wants;
 use wide::wide_at;

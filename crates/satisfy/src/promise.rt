@@ -5,7 +5,6 @@ ghost use Rattle.wide.specs.Wide.{wideAt};
 ghost use Rattle.counting.specs.Question.{problemOf, asks};
 ghost use Rattle.wants.specs.Outcome.{Asked};
 ghost use Rattle.satisfy.specs.Promise.{AllIs, onlyIf, PartIs, Promising, PromisedIs};
-
 use crate::branch::want;
 use counting::question::Question;
 use counting::question::asks;

@@ -6,7 +6,6 @@ ghost use Rattle.sets.specs.Set.{member};
 ghost use Rattle.tableau.specs.Wants.{addedIf};
 ghost use Rattle.wide.specs.Wide.{wideAt};
 ghost use Rattle.satisfy.specs.Relation.{counting, Bounded, QuestionOf};
-
 use counting::question::Question;
 use counting::question::asks;
 use sets::Set;

@@ -17,7 +17,7 @@ pub record Copy (a c : Structure) (f : ℕ → ℕ) : Type 0 where
 module _ {a c : Structure} {f : ℕ → ℕ} (copy : Copy a c f) where
   -- a count is kept where the truth of the counted formula is
   copy-successors : (r w : ℕ) (φ : Formula) → w < a .worlds → ((v : ℕ) → v < a .worlds → truth c φ (f v) ≡ truth a φ v)
-    → successors c r (f w) (truth c φ) ≡ successors a r w (truth a φ)
+      → successors c r (f w) (truth c φ) ≡ successors a r w (truth a φ)
   copy-successors r w φ h same = copy .counts r w (truth c φ) h ∙ count-ext (a .worlds) (λ v l. rw same)
 
   pub copy-truth : (φ : Formula) (w : ℕ) → w < a .worlds → truth c φ (f w) ≡ truth a φ w

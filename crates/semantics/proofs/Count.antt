@@ -58,6 +58,7 @@ count-all p (suc n) e i h = ⊎-elim (λ (at : i ≡ n). rw at (last (p n) refl)
   where
     before : count p n ≡ n
     before = omega (arith, bit-mono (p n) true (λ e. refl), count-le p n)
+
     last : (b : Bool) → p n ≡ b → b ≡ true
     last true q = refl
     last false q = absurd (omega (arith, count-le p n, ap bit q))

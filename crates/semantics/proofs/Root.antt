@@ -41,15 +41,15 @@ rootLinks [] r v w = false
 rootLinks (i ∷ items) r v w = side (i .structure .worlds) (λ u. eqb u (i .world) && i .reached r) (rootLinks items r v) w
 
 rootLinks-count : (r v : ℕ) (φ : Formula) (items : List Item)
-  → count (λ w. rootLinks items r v w && truth (forest items) φ w) (forest items .worlds) ≡ tally r φ items
+    → count (λ w. rootLinks items r v w && truth (forest items) φ w) (forest items .worlds) ≡ tally r φ items
 unfolding forest rootLinks tally count
 rootLinks-count r v φ [] = refl
 rootLinks-count r v φ (i ∷ items) =
     count-side (i .structure .worlds) (forest items .worlds) (λ u. eqb u (i .world) && i .reached r) (rootLinks items r v) (truth (forest (i ∷ items)) φ)
     ∙ ap₂ _+_
-      (count-ext (i .structure .worlds) (λ w h. rw (union-left (i .structure) (forest items) φ, and-assoc))
-       ∙ count-one (λ w. i .reached r && truth (i .structure) φ w) (i .inside))
-      (count-ext (forest items .worlds) (λ w h. rw union-right) ∙ rootLinks-count r v φ items)
+    (count-ext (i .structure .worlds) (λ w h. rw (union-left (i .structure) (forest items) φ, and-assoc))
+    ∙ count-one (λ w. i .reached r && truth (i .structure) φ w) (i .inside))
+    (count-ext (forest items .worlds) (λ w h. rw union-right) ∙ rootLinks-count r v φ items)
 
 -- one world with these facts, and no link
 abbrev point : (ℕ → Bool) → Structure

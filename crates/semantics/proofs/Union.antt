@@ -28,7 +28,7 @@ module _ {A : Type 0} where
 
 -- what is linked on two sides is counted apart
 pub count-side : (n m : ℕ) (f g p : ℕ → Bool)
-  → count (λ w. side n f g w && p w) (n + m) ≡ count (λ w. f w && p w) n + count (λ w. g w && p (n + w)) m
+    → count (λ w. side n f g w && p w) (n + m) ≡ count (λ w. f w && p w) n + count (λ w. g w && p (n + w)) m
 count-side n m f g p =
     count-add (λ w. side n f g w && p w) n m
     ∙ ap₂ _+_ (count-ext n (λ w h. rw (side-left f g h))) (count-ext m (λ w h. rw side-right))
@@ -39,8 +39,9 @@ join a b cross = record {
   worlds = a .worlds + b .worlds;
   holds = λ p. side (a .worlds) (a .holds p) (b .holds p);
   links = λ r. side (a .worlds)
-    (λ v. side (a .worlds) (a .links r v) (λ w. false))
-    (λ v. side (a .worlds) (cross r v) (b .links r v)) }
+      (λ v. side (a .worlds) (a .links r v) (λ w. false))
+      (λ v. side (a .worlds) (cross r v) (b .links r v));
+}
 
 module _ (a b : Structure) (cross : ℕ → ℕ → ℕ → Bool) where
   -- the first part is a copy, whatever crosses over to it
@@ -48,18 +49,20 @@ module _ (a b : Structure) (cross : ℕ → ℕ → ℕ → Bool) where
   join-left = record {
     facts = λ p w h. side-left (a .holds p) (b .holds p) h;
     counts = λ r w p h. rw side-left
-      (omega (arith, count-side (a .worlds) (b .worlds) (a .links r w) (λ v. false) p, count-none {p = λ v. false} (b .worlds) (λ v l. refl))) }
+        (omega (arith, count-side (a .worlds) (b .worlds) (a .links r w) (λ v. false) p, count-none {p = λ v. false} (b .worlds) (λ v l. refl)));
+  }
 
   -- a world of the second part counts the cross links that fit, and the links within its part
   pub join-successors : (r w : ℕ) (p : ℕ → Bool)
-    → successors (join a b cross) r (a .worlds + w) p ≡ count (λ v. cross r w v && p v) (a .worlds) + successors b r w (λ v. p (a .worlds + v))
+      → successors (join a b cross) r (a .worlds + w) p ≡ count (λ v. cross r w v && p v) (a .worlds) + successors b r w (λ v. p (a .worlds + v))
   join-successors r w p = rw side-right (count-side (a .worlds) (b .worlds) (cross r w) (b .links r w) p)
 
   -- the second part is a copy where nothing crosses over
   pub join-right : ((r v w : ℕ) → cross r v w ≡ false) → Copy b (join a b cross) (λ w. a .worlds + w)
   join-right none = record {
     facts = λ p w h. side-right (a .worlds) (a .holds p) (b .holds p) w;
-    counts = λ r w p h. rw join-successors (omega (arith, count-none {p = λ v. cross r w v && p v} (a .worlds) (λ v l. rw none))) }
+    counts = λ r w p h. rw join-successors (omega (arith, count-none {p = λ v. cross r w v && p v} (a .worlds) (λ v l. rw none)));
+  }
 
 -- the disjoint union of two structures
 abbrev pub union : Structure → Structure → Structure

@@ -51,4 +51,5 @@ pub next-below : (w c : ℕ) {b : ℕ} → zero < b → b < 2 ^ w → Within (bi
 next-below w c {b} pos h sub = record {
   smaller = omega (arith, and-le-l (b - 1) c);
   within = λ i e. and-last (bitAt (b - 1) i) (bitAt c i) (rw bit-and at e);
-  greatest = λ x xs l. next-number b c x (within-and w c h sub) (within-and w c (omega arith) xs) l }
+  greatest = λ x xs l. next-number b c x (within-and w c h sub) (within-and w c (omega arith) xs) l;
+}

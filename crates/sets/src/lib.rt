@@ -36,11 +36,7 @@ impl Set {
         ensures { λ r. ⌜ r ≡ member self i ⌝ }
     {
         let bits = self.bits;
-        if i < 64 {
-            (bits >> i) & 1 == 1
-        } else {
-            false
-        }
+        if i < 64 { (bits >> i) & 1 == 1 } else { false }
     }
 
     // The set with i.
@@ -49,7 +45,9 @@ impl Set {
         ensures { λ r. ⌜ member r ≡ added (member self) i ⌝ }
     {
         let bits = self.bits;
-        Set { bits: bits | (1 << i) }
+        Set {
+            bits: bits | (1 << i),
+        }
     }
 
     // The set without i.
@@ -60,7 +58,9 @@ impl Set {
         if 64 <= i {
             self
         } else {
-            Set { bits: bits & !(1 << i) }
+            Set {
+                bits: bits & !(1 << i),
+            }
         }
     }
 

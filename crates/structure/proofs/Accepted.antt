@@ -23,11 +23,12 @@ within : (r : Record) (worlds : ℕ) → worldFaulty r worlds ≡ false → With
 within r worlds ok = record {
   fact = λ k. leb-false worlds (r .world) (rw k at ok);
   link = λ k.
-    let both = neither (leb worlds (r .world)) (leb worlds (r .to)) (rw k at ok) in
-    (leb-false worlds (r .world) (both .0), leb-false worlds (r .to) (both .1)) }
+      let both = neither (leb worlds (r .world)) (leb worlds (r .to)) (rw k at ok) in
+      (leb-false worlds (r .world) (both .0), leb-false worlds (r .to) (both .1));
+}
 
 pub accepted : (bytes : List ℕ) → structureVerdict bytes ≡ Accepted
-  → (i : ℕ) → i < records bytes → Within (recordAt bytes i) (worldsOf (recordAt bytes))
+    → (i : ℕ) → i < records bytes → Within (recordAt bytes i) (worldsOf (recordAt bytes))
 unfolding structureVerdict
 accepted bytes ok i h =
     let r = recordAt bytes i in

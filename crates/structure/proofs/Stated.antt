@@ -46,8 +46,8 @@ module _ (row : ℕ → Record) (relation : ℕ) where
 
   -- a record adds what it states to the word of the world that it leads from, and nothing to the others
   pub links-more : (words : List ℕ) (i b : ℕ) → ((v : ℕ) → getD words v 0 ≡ linksFrom v i) → row i .world < length words
-    → b ≡ word (λ w. eqb (row i .kind) 2 && eqb (row i .name) relation && eqb w (row i .to)) (worldsOf row)
-    → (v : ℕ) → getD (set words (row i .world) (bitOr (getD words (row i .world) 0) b)) v 0 ≡ linksFrom v (suc i)
+      → b ≡ word (λ w. eqb (row i .kind) 2 && eqb (row i .name) relation && eqb w (row i .to)) (worldsOf row)
+      → (v : ℕ) → getD (set words (row i .world) (bitOr (getD words (row i .world) 0) b)) v 0 ≡ linksFrom v (suc i)
   links-more words i b held room adds v =
       let from = row i .world in
       by-cases (ℕ-discrete v from)
@@ -65,8 +65,9 @@ module _ (row : ℕ → Record) (relation : ℕ) where
 
   -- the words of all records, none of which names a world that is not there
   pub successor-words : (words : List ℕ) (n : ℕ) → ((i : ℕ) → i < n → Within (row i) (worldsOf row))
-    → ((v : ℕ) → getD words v 0 ≡ linksFrom v n) → SuccessorWords (stated row n) relation words
+      → ((v : ℕ) → getD words v 0 ≡ linksFrom v n) → SuccessorWords (stated row n) relation words
   unfolding stated
   successor-words words n within held = record {
     below = λ v l. held v;
-    behind = λ v h. held v ∙ word-none _ (λ w l. some-none n (λ i b. no-link (within i b) h w)) }
+    behind = λ v h. held v ∙ word-none _ (λ w l. some-none n (λ i b. no-link (within i b) h w));
+  }

@@ -28,7 +28,8 @@ unfoldable pub stated : (ℕ → Record) → ℕ → Structure
 stated row n = record {
   worlds = worldsOf row;
   holds = λ p w. some (λ i. statesFact (row i) p w) n;
-  links = λ relation v w. some (λ i. statesLink (row i) relation v w) n }
+  links = λ relation v w. some (λ i. statesLink (row i) relation v w) n;
+}
 
 -- the structure that the bytes pack
 abbrev pub structureOf : List ℕ → Structure

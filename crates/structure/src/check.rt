@@ -2,7 +2,6 @@
 ghost use mathlib.Core.Path.{_≡_};
 ghost use Rattle.structure.specs.Record.{recordAt};
 ghost use Rattle.structure.specs.Check.{recordFaulty, worldFaulty, recordVerdict, recordsVerdict, structureVerdict};
-
 use crate::read;
 use crate::record;
 use crate::record::Record;

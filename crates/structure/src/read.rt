@@ -7,7 +7,6 @@ ghost use Rattle.faults.specs.declared.Verdict.the-variants.{Accepted};
 ghost use Rattle.sets.specs.Word.{word};
 ghost use Rattle.structure.specs.Read.{structureOf, SuccessorWords};
 ghost use Rattle.structure.specs.Check.{structureVerdict};
-
 use crate::record;
 use crate::record::Record;
 

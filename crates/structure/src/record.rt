@@ -2,7 +2,6 @@
 ghost use mathlib.Core.Path.{_≡_};
 ghost use Prim.Native.Nat.{_<_};
 ghost use Rattle.structure.specs.Record.{recordOf, tripleAt, recordAt};
-
 use packed::byte_at;
 
 // The fields of a record, the same for its three kinds. A header's world is the number of worlds less 1, and a link's is

@@ -37,12 +37,12 @@ below-if-used false i j e u = let z : _≡_ {A = ℕ} 0 1 = cc in absurd (omega 
 
 -- a formula reads only the references that its kind uses
 kinds-ext : (ref ref′ : ℕ → Formula) (e : Entry) (k : ℕ) → (usesOf k .first ≡ true → ref (e .first) ≡ ref′ (e .first))
-  → (usesOf k .second ≡ true → ref (e .second) ≡ ref′ (e .second)) → getD (kinds ref e) k falsum ≡ getD (kinds ref′ e) k falsum
+    → (usesOf k .second ≡ true → ref (e .second) ≡ ref′ (e .second)) → getD (kinds ref e) k falsum ≡ getD (kinds ref′ e) k falsum
 unfolding kinds usesOf
 kinds-ext ref ref′ e =
     by-kind
     (λ k. (usesOf k .first ≡ true → ref (e .first) ≡ ref′ (e .first)) → (usesOf k .second ≡ true → ref (e .second) ≡ ref′ (e .second))
-      → getD (kinds ref e) k falsum ≡ getD (kinds ref′ e) k falsum)
+    → getD (kinds ref e) k falsum ≡ getD (kinds ref′ e) k falsum)
     (λ p q. refl)
     (λ p q. refl)
     (λ p q. refl)
@@ -60,8 +60,8 @@ module _ {entry : ℕ → Entry} {n : ℕ} (wf : WellFormed entry n) where
   formula-rule i h =
       formulaAt-earlier entry i
       ∙ kinds-ext (earlier entry i) (formulaAt entry) (entry i) (entry i .kind)
-        (λ u. earlier-below entry i (entry i .first) (wf i h .first u))
-        (λ u. earlier-below entry i (entry i .second) (wf i h .second u))
+      (λ u. earlier-below entry i (entry i .first) (wf i h .first u))
+      (λ u. earlier-below entry i (entry i .second) (wf i h .second u))
 
   -- the depth of an entry, from those of the entries that it refers to
   pub depth-rule : (i : ℕ) → i < n → depthAt entry i ≡ depthOf (depthAt entry (entry i .first)) (depthAt entry (entry i .second)) (entry i .kind)
@@ -69,7 +69,7 @@ module _ {entry : ℕ → Entry} {n : ℕ} (wf : WellFormed entry n) where
 
   -- the truth of an entry, from that of the entries that it refers to
   pub truth-rule : (s : Structure) (w i : ℕ) → i < n
-    → truth s (formulaAt entry i) w ≡ truthOf s w (λ j. truth s (formulaAt entry j)) (entry i)
+      → truth s (formulaAt entry i) w ≡ truthOf s w (λ j. truth s (formulaAt entry j)) (entry i)
   truth-rule s w i h = ap (λ (φ : Formula). truth s φ w) (formula-rule i h) ∙ truth-formulaOf s w (formulaAt entry) (entry i)
 
 entry-accepted : (e : Entry) (i : ℕ) → entryVerdict e i ≡ Accepted → Fitting e i
@@ -80,7 +80,8 @@ entry-accepted e i ok =
     record {
       kind = leb-false 8 (e .kind) (not-refused (leb 8 (e .kind)) Kind (known .0));
       first = below-if-used (usesOf (e .kind) .first) i (e .first) (down .0);
-      second = below-if-used (usesOf (e .kind) .second) i (e .second) (down .1) }
+      second = below-if-used (usesOf (e .kind) .second) i (e .second) (down .1);
+    }
 
 -- an accepted table is well-formed
 pub accepted : (bytes : List ℕ) → tableVerdict bytes ≡ Accepted → WellFormed (entryAt bytes) (size bytes)

@@ -51,7 +51,8 @@ module _ (entry : ℕ → Entry) where
     pub depths-next : n < length depths → Depths entry (suc n) (set depths n (depthAt entry n))
     depths-next room = record {
       below = fill-below (depthAt entry) (λ i. 0) n depths (held .below) (held .behind) room;
-      behind = fill-behind (depthAt entry) (λ i. 0) n depths (held .below) (held .behind) }
+      behind = fill-behind (depthAt entry) (λ i. 0) n depths (held .below) (held .behind);
+    }
 
 pub depths-none : (entry : ℕ → Entry) (n : ℕ) → Depths entry 0 (replicate n 0)
 depths-none entry n = record { below = λ i h. absurd (not-suc-le-zero h); behind = λ i h. zeros-at n i }

@@ -43,7 +43,7 @@ top-field : (word k : ℕ) (used : Bool) → eqb (bitAnd word (onBits (not used)
 top-field word k used = rw unused-part (stray-part used (word % 2 ^ k))
 
 one-field : (word k a : ℕ) (used : Bool)
-  → eqb (bitAnd word (a * 2 ^ k + onBits (not used) (2 ^ k - 1))) 0 ≡ eqb (bitAnd (word / 2 ^ k) a) 0 && not (stray used (word % 2 ^ k))
+    → eqb (bitAnd word (a * 2 ^ k + onBits (not used) (2 ^ k - 1))) 0 ≡ eqb (bitAnd (word / 2 ^ k) a) 0 && not (stray used (word % 2 ^ k))
 one-field word k a used =
     ap (λ (x : ℕ). eqb x 0) (and-split word k a _ (bits-lt used)) ∙ digits-zero k _ _
     ∙ ap (λ (b : Bool). eqb (bitAnd (word / 2 ^ k) a) 0 && b) (top-field (word % 2 ^ k) k used ∙ rw mod-mod)
@@ -59,25 +59,26 @@ neither false b = refl
 module _ (word : ℕ) (u : Uses) where
   -- the complement of the used bits, field by field
   unusedBits : 4294967295 - usedBits u
-    ≡ ((onBits (not (u .name)) 255 * 2 ^ 6 + onBits (not (u .first)) 63) * 2 ^ 6 + onBits (not (u .second)) 63) * 2 ^ 8 + onBits (not (u .grade)) 255
+      ≡ ((onBits (not (u .name)) 255 * 2 ^ 6 + onBits (not (u .first)) 63) * 2 ^ 6 + onBits (not (u .second)) 63) * 2 ^ 8 + onBits (not (u .grade)) 255
   unusedBits =
       omega (arith, used-or-unused (u .name) 255, used-or-unused (u .first) 63, used-or-unused (u .second) 63, used-or-unused (u .grade) 255)
 
   pub stray-bits : eqb (bitAnd word (4294967295 - usedBits u)) 0
-    ≡ not (stray (u .name) (field word 20 8) || stray (u .first) (field word 14 6) || stray (u .second) (field word 8 6) || stray (u .grade) (field word 0 8))
+      ≡ not (stray (u .name) (field word 20 8) || stray (u .first) (field word 14 6) || stray (u .second) (field word 8 6) || stray (u .grade) (field word 0 8))
   stray-bits =
-      rw
-      (unusedBits
-      , one-field word 8 _ (u .grade)
-      , one-field (word / 2 ^ 8) 6 _ (u .second)
-      , shr-shr word 8 6
-      , one-field (word / 2 ^ 14) 6 _ (u .first)
-      , shr-shr word 14 6
-      , top-field (word / 2 ^ 20) 8 (u .name)
-      , neither
-      , neither
-      , neither
-      , div-one)
+      rw (
+        unusedBits,
+        one-field word 8 _ (u .grade),
+        one-field (word / 2 ^ 8) 6 _ (u .second),
+        shr-shr word 8 6,
+        one-field (word / 2 ^ 14) 6 _ (u .first),
+        shr-shr word 14 6,
+        top-field (word / 2 ^ 20) 8 (u .name),
+        neither,
+        neither,
+        neither,
+        div-one,
+      )
 
 -- the test of the code
 module _ (word : ℕ) where
@@ -95,7 +96,7 @@ bits-le b x = omega (arith, used-or-unused b x)
 
 -- the lowest bit of a field of six bits says whether the field is used
 field-bit : (high-part k low-part : ℕ) (b : Bool) → low-part < 2 ^ k
-  → eqb (bitAnd (((high-part * 2 ^ 6 + onBits b 63) * 2 ^ k + low-part) / 2 ^ k) 1) 1 ≡ b
+    → eqb (bitAnd (((high-part * 2 ^ 6 + onBits b 63) * 2 ^ k + low-part) / 2 ^ k) 1) 1 ≡ b
 field-bit h k l b less = ap (λ (x : ℕ). eqb x 1) (and-mask _ 1 ∙ ap (λ (x : ℕ). x % 2) (high (h * 2 ^ 6 + onBits b 63) k less)) ∙ odd b
   where
     odd : (b : Bool) → eqb ((h * 2 ^ 6 + onBits b 63) % 2) 1 ≡ b

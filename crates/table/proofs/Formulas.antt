@@ -65,7 +65,7 @@ module _ (s : Structure) (w : ℕ) where
 
   -- the rule of a known kind
   pub truth-of-kind : (ref : ℕ → Formula) (e : Entry) (k : ℕ) → e .kind ≡ k
-    → truth s (formulaOf ref e) w ≡ getD (truthRows (λ j. truth s (ref j)) e) k false
+      → truth s (formulaOf ref e) w ≡ getD (truthRows (λ j. truth s (ref j)) e) k false
   truth-of-kind ref e k h = truth-formulaOf ref e ∙ ap (λ (k : ℕ). getD (truthRows (λ j. truth s (ref j)) e) k false) h
 
 -- document 01's words on depth are those of the formulas

@@ -6,8 +6,6 @@ ghost use lib.Dec.{eqb, leb};
 ghost use Rattle.table.specs.Entry.{entryOf, entryAt};
 ghost use Rattle.table.specs.Check.{usesOf, refersUp, fieldsVerdict, entryVerdict, entriesVerdict, depthVerdict, tableVerdict};
 ghost use Rattle.table.specs.Mask.{usedBits};
-
-
 use crate::depth;
 use crate::entry;
 use crate::entry::Entry;
@@ -16,6 +14,7 @@ use faults::Verdict;
 
 // The longest table, in bytes, and the greatest depth.
 const MAX_BYTES: usize = 256;
+
 const MAX_DEPTH: u32 = 63;
 
 // The bits of a 32-bit entry that each kind uses: the kind's own, and those of the fields that it uses.

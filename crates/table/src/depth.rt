@@ -1,13 +1,9 @@
 // Depths of a table's entries.
 ghost use mathlib.Core.Path.{_≡_};
 ghost use Prim.Native.Nat.{_<_, _≤_, max};
-
-
 ghost use Rattle.table.specs.Entry.{entryAt};
 ghost use Rattle.table.specs.Formulas.{depthOf, Depths};
-
 use crate::entry;
-
 
 fn greater(a: u32, b: u32) -> u32
     ensures { λ r. ⌜ r ≡ max a b ⌝ }

@@ -1,7 +1,6 @@
 // Entries: the packed 32-bit word, and its fields.
 ghost use mathlib.Core.Path.{_≡_};
 ghost use Rattle.table.specs.Entry.{entryOf, wordAt, entryAt};
-
 use packed::byte_at;
 
 // The fields of an entry. A field that its kind does not use means nothing.

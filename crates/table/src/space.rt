@@ -1,10 +1,8 @@
 // The words of work space that a decision needs: document 01's G and W.
 ghost use mathlib.Core.Path.{_≡_};
 ghost use Prim.Native.Nat.{_<_, _≤_};
-
 ghost use Rattle.table.specs.Entry.{entryAt, size};
 ghost use Rattle.table.specs.Space.{weight, gradeSum, tableWork};
-
 use crate::entry;
 use crate::entry::Entry;
 

@@ -64,6 +64,7 @@ fn lengths(before: Tally) -> Tally {
 // What each kind from 0 to 15 gives with all fields 0, in entry 0 and in entry 63: the reference 0 is not smaller than
 // 0, and smaller than 63.
 const KIND_IN_0: [u8; 16] = [0, 0, 0, 4, 4, 4, 4, 4, 2, 2, 2, 2, 2, 2, 2, 2];
+
 const KIND_IN_63: [u8; 16] = [0, 0, 0, 0, 0, 0, 0, 0, 2, 2, 2, 2, 2, 2, 2, 2];
 
 // A kind alone, at the start of 64 entries, and at their end.
@@ -85,12 +86,16 @@ fn kinds(before: Tally) -> Tally {
 
 // Which kinds from 0 to 7 use a field: 1 for a used one.
 const NAME: [u8; 8] = [0, 0, 1, 0, 0, 0, 1, 1];
+
 const FIRST: [u8; 8] = [0, 0, 0, 1, 1, 1, 1, 1];
+
 const SECOND: [u8; 8] = [0, 0, 0, 0, 1, 1, 0, 0];
+
 const GRADE: [u8; 8] = [0, 0, 0, 0, 0, 0, 1, 1];
 
 // The fields in order: the highest bit of each, and the highest value that entry 63 may use in it.
 const HIGHEST_BIT: [u32; 4] = [128, 32, 32, 128];
+
 const HIGHEST: [u32; 4] = [255, 62, 62, 255];
 
 fn uses(kind: u32, field: usize) -> u8 {

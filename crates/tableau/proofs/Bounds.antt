@@ -50,7 +50,7 @@ module _ {entry : ℕ → Entry} {n : ℕ} (wf : WellFormed entry n) (s : Struct
   -- the rule says that the grade is not 0 where that matters
   module _ (yes no pending : ℕ → Bool) where
     pub fits-truth : (b c : Bool) → entry i .kind ≡ boundKind b c → rule yes no pending b (entry i) i ≡ true → Fits c (entry i) reached
-      → truthAt entry s w i ≡ b
+        → truthAt entry s w i ≡ b
     unfolding rule
     fits-truth true true k r h = truth-of-kind wf s w inside 6 k ∙ le-leb _ _ (rw k at h)
     fits-truth true false k r h = truth-of-kind wf s w inside 7 k ∙ le-leb _ _ (rw k at h)

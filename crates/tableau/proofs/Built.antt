@@ -32,9 +32,11 @@ module _ {entry : ℕ → Entry} {n : ℕ} (yes no : ℕ → Bool) (below : (b :
       let (e, d) = both-parts true (eqb (entry i .name) r) _ h in
       rw (← eqb-true (entry i .name) r e) (solution i d)
   solution-if false q = record {
-    rows = []; usable = tt;
+    rows = [];
+    usable = tt;
     met = λ i d e. absurd (true≢false (sym (bound-found true i d e) ∙ q));
-    kept = λ i d e. absurd (true≢false (sym (bound-found false i d e) ∙ q)) }
+    kept = λ i d e. absurd (true≢false (sym (bound-found false i d e) ∙ q));
+  }
 
 module _ {entry : ℕ → Entry} {n : ℕ} (wf : WellFormed entry n) {yes no pending : ℕ → Bool} (settled : Settled entry n yes no pending)
     (none : (i : ℕ) → pending i ≡ false)
@@ -47,10 +49,10 @@ module _ {entry : ℕ → Entry} {n : ℕ} (wf : WellFormed entry n) {yes no pen
   unfolding facts
   facts-as-wanted true i want k = found-any _ n (settled .below true i want) (rw (want, k, eq-eqb (entry i .name) (entry i .name) refl))
   facts-as-wanted false i want k = not-eq-not {b = false} .0 λ h.
-    let (j, inside, q) = any-found _ n h in
-    let (want′, q′) = both-parts true (yes j) _ q in
-    let (k′, e) = both-parts true (eqb (entry j .kind) 2) _ q′ in
-    settled .facts j want′ i want (eqb-true _ _ k′) k (eqb-true _ _ e)
+      let (j, inside, q) = any-found _ n h in
+      let (want′, q′) = both-parts true (yes j) _ q in
+      let (k′, e) = both-parts true (eqb (entry j .kind) 2) _ q′ in
+      settled .facts j want′ i want (eqb-true _ _ k′) k (eqb-true _ _ e)
 
   everywhere : (r : ℕ) → Solution entry yes no r
   everywhere r = solution-if yes no (settled .below) solution r (any (λ j. speaks yes no (entry j) j r) n) refl
@@ -76,5 +78,8 @@ module _ {entry : ℕ → Entry} {n : ℕ} (wf : WellFormed entry n) {yes no pen
 
   pub built : Sat entry yes no
   built = record {
-    structure = rooted facts items; world = root items; inside = root-inside facts items;
-    meets = closure wf settled (rooted facts items) (root items) elementary-as-wanted }
+    structure = rooted facts items;
+    world = root items;
+    inside = root-inside facts items;
+    meets = closure wf settled (rooted facts items) (root items) elementary-as-wanted;
+  }

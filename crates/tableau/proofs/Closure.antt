@@ -29,24 +29,24 @@ pub data Elementary (pending : ℕ → Bool) (e : Entry) (i : ℕ) : Type 0 wher
 module _ (entry : ℕ → Entry) (yes no pending : ℕ → Bool) (s : Structure) (w : ℕ) (e : Entry) (i : ℕ)
     (parts : (b : Bool) (j : ℕ) → j < i → wanted yes no b j ≡ true → truthAt entry s w j ≡ b) where
   by-both : (b : Bool) → e .first < i → e .second < i → wanted yes no b (e .first) && wanted yes no b (e .second) ≡ true
-    → both b (truthAt entry s w (e .first)) (truthAt entry s w (e .second)) ≡ b
+      → both b (truthAt entry s w (e .first)) (truthAt entry s w (e .second)) ≡ b
   by-both b f g r =
       let (p, q) = both-parts true (wanted yes no b (e .first)) (wanted yes no b (e .second)) r in
       both-made b (parts b (e .first) f p) (parts b (e .second) g q)
 
   by-either : (b : Bool) → e .first < i → e .second < i
-    → (pending i ≡ true → either b (truthAt entry s w (e .first)) (truthAt entry s w (e .second)) ≡ b)
-    → pending i || (wanted yes no b (e .first) || wanted yes no b (e .second)) ≡ true
-    → either b (truthAt entry s w (e .first)) (truthAt entry s w (e .second)) ≡ b
+      → (pending i ≡ true → either b (truthAt entry s w (e .first)) (truthAt entry s w (e .second)) ≡ b)
+      → pending i || (wanted yes no b (e .first) || wanted yes no b (e .second)) ≡ true
+      → either b (truthAt entry s w (e .first)) (truthAt entry s w (e .second)) ≡ b
   by-either b f g given r =
       ⊎-elim given
       (λ (q : wanted yes no b (e .first) || wanted yes no b (e .second) ≡ true).
-        either-made b (⊎-map (parts b (e .first) f) (parts b (e .second) g) (one-of (wanted yes no b (e .first)) _ q)))
+      either-made b (⊎-map (parts b (e .first) f) (parts b (e .second) g) (one-of (wanted yes no b (e .first)) _ q)))
       (one-of (pending i) _ r)
 
   by-rule : (k : ℕ) (b : Bool) → Fitting (ofKind k e) i → rule yes no pending b (ofKind k e) i ≡ true
-    → (Elementary pending (ofKind k e) i → truthOf s w (λ j. truth s (formulaAt entry j)) (ofKind k e) ≡ b)
-    → truthOf s w (λ j. truth s (formulaAt entry j)) (ofKind k e) ≡ b
+      → (Elementary pending (ofKind k e) i → truthOf s w (λ j. truth s (formulaAt entry j)) (ofKind k e) ≡ b)
+      → truthOf s w (λ j. truth s (formulaAt entry j)) (ofKind k e) ≡ b
   unfolding rule usesOf
   by-rule zero b fit r given = sym r
   by-rule (suc zero) b fit r given = sym (not-true b r)
@@ -69,7 +69,7 @@ module _ {entry : ℕ → Entry} {n : ℕ} (wf : WellFormed entry n) {yes no pen
       let known = truth-rule wf s w i inside in
       known
       ∙ by-rule entry yes no pending s w (entry i) i (λ c j l. as-wanted-below m c j (omega arith))
-        (entry i .kind) b (wf i inside) (settled .treated b i want) (λ e. sym known ∙ given b i want e)
+      (entry i .kind) b (wf i inside) (settled .treated b i want) (λ e. sym known ∙ given b i want e)
 
   pub closure : Meets entry s w yes no
   closure = record { as-wanted = λ b i. as-wanted-below (suc i) b i (lt-suc-self i) }

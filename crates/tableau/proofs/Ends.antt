@@ -22,8 +22,8 @@ use Rattle.tableau.proofs.Extend.{ext-done, ext-inserted}
 -- a test that no number from w on passes is that of the bits of its word
 word-spells : (w : ℕ) (p : ℕ → Bool) → ((i : ℕ) → p i ≡ true → i < w) → bitAt (word p w) ≡ p
 word-spells w p below = fun-ext λ i.
-  by-cases (decLt i w) (λ (l : i < w). bit-word p l)
-  (λ (g : ¬ (i < w)). bit-word-high p (omega arith) ∙ sym (not-eq-not {b = false} .0 λ h. g (below i h)))
+    by-cases (decLt i w) (λ (l : i < w). bit-word p l)
+    (λ (g : ¬ (i < w)). bit-word-high p (omega arith) ∙ sym (not-eq-not {b = false} .0 λ h. g (below i h)))
 
 coded : (w : ℕ) → Row → Slot
 coded w row = taken (word (row .promises) w) (row .copies)
@@ -48,7 +48,8 @@ module _ (P : Problem) (below : (b : Bool) (i : ℕ) → wanted (P .yes) (P .no)
     rows = rowsOf slots;
     usable = all-usable slots fit;
     met = λ i d e. m .met i (record { inside = bound-below true i d; bounds = d; here = e });
-    kept = λ i d e. k .kept i (record { inside = bound-below false i d; bounds = d; here = e }) }
+    kept = λ i d e. k .kept i (record { inside = bound-below false i d; bounds = d; here = e });
+  }
 
   -- ---- the start
 

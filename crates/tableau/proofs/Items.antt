@@ -42,24 +42,24 @@ module _ (entry : ℕ → Entry) (yes no : ℕ → Bool) (r : ℕ) where
   tally-other q φ ne (row ∷ rows) usable = rw (tally-append, tally-replicate, ne-eqb q r ne) (omega (arith, tally-other q φ ne rows (usable .1)))
 
   tally-row : (φ : Formula) (row : Row) (rows : List Row) (usable : All (Usable entry yes no r) (row ∷ rows))
-    → tally r φ (itemsFrom (row ∷ rows) usable)
+      → tally r φ (itemsFrom (row ∷ rows) usable)
       ≡ gain (truth (usable .0 .feasible .structure) φ (usable .0 .feasible .world)) (row .copies) + tally r φ (itemsFrom rows (usable .1))
   unfolding itemsFrom itemOf
   tally-row φ row rows usable = rw (tally-append, tally-replicate, eq-eqb r r refl)
 
   served-tally : (i : ℕ) → need yes no (entry i) i ≡ true → (rows : List Row) (usable : All (Usable entry yes no r) rows)
-    → served i rows ≤ tally r (partOf entry i) (itemsFrom rows usable)
+      → served i rows ≤ tally r (partOf entry i) (itemsFrom rows usable)
   unfolding total
   served-tally i d [] usable = zero-le
   served-tally i d (row ∷ rows) usable = rw tally-row
-    (omega (arith, gain-mono (row .promises i) _ (row .copies) (λ p. usable .0 .feasible .keeps true i p d), served-tally i d rows (usable .1)))
+      (omega (arith, gain-mono (row .promises i) _ (row .copies) (λ p. usable .0 .feasible .keeps true i p d), served-tally i d rows (usable .1)))
 
   tally-spent : (i : ℕ) → limit yes no (entry i) i ≡ true → (rows : List Row) (usable : All (Usable entry yes no r) rows)
-    → tally r (partOf entry i) (itemsFrom rows usable) ≤ spent i rows
+      → tally r (partOf entry i) (itemsFrom rows usable) ≤ spent i rows
   unfolding total itemsFrom tally
   tally-spent i d [] usable = zero-le
   tally-spent i d (row ∷ rows) usable = rw tally-row
-    (omega (arith, gain-not (row .promises i) _ (row .copies) (λ p. usable .0 .feasible .keeps false i p d), tally-spent i d rows (usable .1)))
+      (omega (arith, gain-not (row .promises i) _ (row .copies) (λ p. usable .0 .feasible .keeps false i p d), tally-spent i d rows (usable .1)))
 
 module _ (entry : ℕ → Entry) (yes no : ℕ → Bool) (solution : (r : ℕ) → Solution entry yes no r) where
   -- the items of one relation; of all relations below m
@@ -83,7 +83,7 @@ module _ (entry : ℕ → Entry) (yes no : ℕ → Bool) (solution : (r : ℕ) �
     tally-below : (m : ℕ) → r < m → tally r φ (itemsBelow m) ≡ tally r φ (itemsBy r)
     unfolding itemsBelow
     tally-below = le-ind _ (rw tally-append (omega (arith, tally-past r (le-refl r))))
-      (λ m l e. rw tally-append (omega (arith, itemsBy-other m (λ (e : r ≡ m). omega arith))))
+        (λ m l e. rw tally-append (omega (arith, itemsBy-other m (λ (e : r ≡ m). omega arith))))
 
   itemsBy-fits : (c : Bool) (i : ℕ) → bound yes no (entry i) i c ≡ true → Fits c (entry i) (tally (entry i .name) (partOf entry i) (itemsBy (entry i .name)))
   unfolding itemsBy
@@ -95,5 +95,5 @@ module _ (entry : ℕ → Entry) (yes no : ℕ → Bool) (solution : (r : ℕ) �
       omega (arith, known .kept i d refl, tally-spent entry yes no (entry i .name) i d (known .rows) (known .usable))
 
   pub items-fit : (c : Bool) (i : ℕ) → bound yes no (entry i) i c ≡ true → (m : ℕ) → entry i .name < m
-    → Fits c (entry i) (tally (entry i .name) (partOf entry i) (itemsBelow m))
+      → Fits c (entry i) (tally (entry i .name) (partOf entry i) (itemsBelow m))
   items-fit c i d m h = rw tally-below (itemsBy-fits c i d)

@@ -33,13 +33,13 @@ module _ {entry : ℕ → Entry} {n : ℕ} (wf : WellFormed entry n) (s : Struct
 
   -- a true and, a false or
   pub both-rule : (b : Bool) → entry i .kind ≡ cond b 4 5 → truthAt entry s w i ≡ b
-    → (truthAt entry s w (entry i .first) ≡ b) × (truthAt entry s w (entry i .second) ≡ b)
+      → (truthAt entry s w (entry i .first) ≡ b) × (truthAt entry s w (entry i .second) ≡ b)
   both-rule true k t = both-parts true _ _ (sym (truth-of-kind 4 k) ∙ t)
   both-rule false k t = both-parts false _ _ (sym (truth-of-kind 5 k) ∙ t)
 
   -- a true or, a false and
   pub either-rule : (b : Bool) → entry i .kind ≡ cond b 5 4 → truthAt entry s w i ≡ b
-    → (truthAt entry s w (entry i .first) ≡ b) ⊎ ((truthAt entry s w (entry i .first) ≡ not b) × (truthAt entry s w (entry i .second) ≡ b))
+      → (truthAt entry s w (entry i .first) ≡ b) ⊎ ((truthAt entry s w (entry i .first) ≡ not b) × (truthAt entry s w (entry i .second) ≡ b))
   either-rule true k t = either-parts true _ _ (sym (truth-of-kind 5 k) ∙ t)
   either-rule false k t = either-parts false _ _ (sym (truth-of-kind 4 k) ∙ t)
 
@@ -49,6 +49,6 @@ module _ {entry : ℕ → Entry} {n : ℕ} (wf : WellFormed entry n) (s : Struct
 
 -- two entries with the same fact
 pub fact-rule : {entry : ℕ → Entry} {n : ℕ} → WellFormed entry n → (s : Structure) (w : ℕ) {i j : ℕ} → i < n → j < n
-  → entry i .kind ≡ 2 → entry j .kind ≡ 2 → entry i .name ≡ entry j .name → truthAt entry s w i ≡ truthAt entry s w j
+    → entry i .kind ≡ 2 → entry j .kind ≡ 2 → entry i .name ≡ entry j .name → truthAt entry s w i ≡ truthAt entry s w j
 fact-rule wf s w {i} {j} hi hj ki kj e =
     truth-of-kind wf s w hi 2 ki ∙ ap (λ (p : ℕ). s .holds p w) e ∙ sym (truth-of-kind wf s w hj 2 kj)

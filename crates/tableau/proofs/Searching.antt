@@ -32,17 +32,27 @@ module _ {P : Problem} {slots : List Slot} where
   module _ {b m : ℕ} where
     pub searching-taken : 0 < m → Useful P slots b m → Fit P b → Searching P slots (suc b) → Searching P (taken b m ∷ slots) b
     searching-taken pos u fit s = record {
-      fit = (fit, s .fit); kept = kept-taken (s .kept) u; serving = (pos, u .serves pos, s .serving); left = λ known. open-taken u (s .left known) }
+      fit = (fit, s .fit);
+      kept = kept-taken (s .kept) u;
+      serving = (pos, u .serves pos, s .serving);
+      left = λ known. open-taken u (s .left known);
+    }
 
     pub searching-lowered : 0 < m - 1 → (Met P (taken b m ∷ slots) → ⊥) → Searching P (taken b m ∷ slots) 0 → Searching P (taken b (m - 1) ∷ slots) b
     searching-lowered pos un s = record {
-      fit = s .fit; kept = kept-lowered (omega arith) (s .kept); serving = (pos, s .serving .1, s .serving .2);
-      left = λ known. open-lowered (s .serving .0) un (s .left known) }
+      fit = s .fit;
+      kept = kept-lowered (omega arith) (s .kept);
+      serving = (pos, s .serving .1, s .serving .2);
+      left = λ known. open-lowered (s .serving .0) un (s .left known);
+    }
 
     pub searching-popped : m ≡ 1 → (Met P (taken b m ∷ slots) → ⊥) → Searching P (taken b m ∷ slots) 0 → Searching P slots b
     searching-popped one un s = record {
-      fit = s .fit .1; kept = kept-before (s .kept); serving = s .serving .2;
-      left = λ known. open-dropped {b = b} (rw one at (open-lowered (s .serving .0) un (s .left known))) }
+      fit = s .fit .1;
+      kept = kept-before (s .kept);
+      serving = s .serving .2;
+      left = λ known. open-dropped {b = b} (rw one at (open-lowered (s .serving .0) un (s .left known)));
+    }
 
 pub searching-never : {P : Problem} → (Met P [] → ⊥) → Searching P [] 0 → Solvable P → ⊥
 searching-never un s known = open-never un (s .left known)

@@ -28,10 +28,10 @@ boundKind-apart false e = omega arith
 module _ {entry : ℕ → Entry} {s : Structure} {w : ℕ} {yes no : ℕ → Bool} (meets : Meets entry s w yes no) (i : ℕ) where
   limit-no-need : limit yes no (entry i) i ≡ true → need yes no (entry i) i ≡ false
   limit-no-need l = not-eq-not {b = false} .0 λ n.
-    let (b, want, k) = bound-cases yes no (entry i) i true n in
-    let (c, want′, k′) = bound-cases yes no (entry i) i false l in
-    let same : c ≡ b = sym (meets .as-wanted c i want′) ∙ meets .as-wanted b i want in
-    boundKind-apart b (sym k ∙ k′ ∙ ap (λ (d : Bool). boundKind d false) same)
+      let (b, want, k) = bound-cases yes no (entry i) i true n in
+      let (c, want′, k′) = bound-cases yes no (entry i) i false l in
+      let same : c ≡ b = sym (meets .as-wanted c i want′) ∙ meets .as-wanted b i want in
+      boundKind-apart b (sym k ∙ k′ ∙ ap (λ (d : Bool). boundKind d false) same)
 
 gain-bit : (a b : Bool) → gain b (bit a) ≡ bit (a && b)
 gain-bit a true = rw and-true
@@ -52,24 +52,24 @@ module _ (entry : ℕ → Entry) (yes no : ℕ → Bool) (r : ℕ) where
   rowOf item = record { promises = promised item; copies = bit (item .reached r) }
 
   total-tally : (p : Row → Bool) (φ : Formula) → ((item : Item) → p (rowOf item) ≡ truth (item .structure) φ (item .world))
-    → (items : List Item) → total p (map rowOf items) ≡ tally r φ items
+      → (items : List Item) → total p (map rowOf items) ≡ tally r φ items
   unfolding total tally rowOf
   total-tally p φ same [] = refl
   total-tally p φ same (item ∷ items) = rw (same, gain-bit, total-tally p φ same items)
 
   module _ (no-need : (i : ℕ) → limit yes no (entry i) i ≡ true → need yes no (entry i) i ≡ false) where
     need-promised : (i : ℕ) → need yes no (entry i) i ≡ true → entry i .name ≡ r
-      → (item : Item) → promised item i ≡ truth (item .structure) (partOf entry i) (item .world)
+        → (item : Item) → promised item i ≡ truth (item .structure) (partOf entry i) (item .world)
     unfolding promised
     need-promised i d e item = rw (eq-eqb (entry i .name) r e, d)
 
     limit-promised : (i : ℕ) → limit yes no (entry i) i ≡ true → entry i .name ≡ r
-      → (item : Item) → not (promised item i) ≡ truth (item .structure) (partOf entry i) (item .world)
+        → (item : Item) → not (promised item i) ≡ truth (item .structure) (partOf entry i) (item .world)
     unfolding promised
     limit-promised i d e item = rw (eq-eqb (entry i .name) r e, no-need i d, d, Bool·not-not)
 
     promised-kept : (item : Item) (c : Bool) (i : ℕ) → promised item i ≡ true → entry i .name ≡ r → bound yes no (entry i) i c ≡ true
-      → truth (item .structure) (partOf entry i) (item .world) ≡ c
+        → truth (item .structure) (partOf entry i) (item .world) ≡ c
     promised-kept item true i p e d = sym (need-promised i d e item) ∙ p
     promised-kept item false i p e d = sym (limit-promised i d e item) ∙ ap not p
 
@@ -78,8 +78,12 @@ module _ (entry : ℕ → Entry) (yes no : ℕ → Bool) (r : ℕ) where
     usable item = record {
       within = λ i. and-grows (eqb (entry i .name) r) _ (λ q. q) (cond-either (need yes no (entry i) i) _ _ _);
       feasible = record {
-        structure = item .structure; world = item .world; inside = item .inside;
-        keeps = λ c i p. promised-kept item c i p (eqb-true (entry i .name) r (both-parts true (eqb (entry i .name) r) _ p .0)) } }
+        structure = item .structure;
+        world = item .world;
+        inside = item .inside;
+        keeps = λ c i p. promised-kept item c i p (eqb-true (entry i .name) r (both-parts true (eqb (entry i .name) r) _ p .0));
+      };
+    }
 
     all-usable : (items : List Item) → All (Usable entry yes no r) (map rowOf items)
     all-usable [] = tt
@@ -100,7 +104,7 @@ module _ {entry : ℕ → Entry} {n : ℕ} (wf : WellFormed entry n) {yes no : �
   rows = map (rowOf entry yes no r) (itemsOf (sat .structure) (sat .world))
 
   total-reached : (p : Row → Bool) (i : ℕ) → ((item : Item) → p (rowOf entry yes no r item) ≡ truth (item .structure) (partOf entry i) (item .world))
-    → total p rows ≡ reached i
+      → total p rows ≡ reached i
   unfolding rows
   total-reached p i same = total-tally entry yes no r p (partOf entry i) same _ ∙ itemsOf-tally r (partOf entry i) (sat .structure) (sat .world)
 
@@ -112,4 +116,5 @@ module _ {entry : ℕ → Entry} {n : ℕ} (wf : WellFormed entry n) {yes no : �
         rows = rows;
         usable = all-usable entry yes no r no-need (itemsOf (sat .structure) (sat .world));
         met = λ i d e. omega (arith, reached-fits true i d e, total-reached (λ row. row .promises i) i (need-promised entry yes no r no-need i d e));
-        kept = λ i d e. omega (arith, reached-fits false i d e, total-reached (λ row. not (row .promises i)) i (limit-promised entry yes no r no-need i d e)) }
+        kept = λ i d e. omega (arith, reached-fits false i d e, total-reached (λ row. not (row .promises i)) i (limit-promised entry yes no r no-need i d e));
+      }

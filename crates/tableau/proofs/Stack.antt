@@ -41,11 +41,11 @@ module _ (P : Problem) where
       omega (arith, lo-le-weight (P .entry i) b k, lacks .unmet)
 
   supplied-more : (s : Slot) (slots : List Slot) → 0 < s .copies → (lacks : Lacks P slots (s .code)) (n : ℕ) → lacks .need < n
-    → supplied (P .entry) slots n < supplied (P .entry) (s ∷ slots) n
+      → supplied (P .entry) slots n < supplied (P .entry) (s ∷ slots) n
   unfolding supplied total
   supplied-more s slots pos lacks = le-ind _
-    (rw (lacks .promised) (omega (arith, lacks-weight lacks, supplied-grows (P .entry) s slots (lacks .need))))
-    (λ n l h. omega arith)
+      (rw (lacks .promised) (omega (arith, lacks-weight lacks, supplied-grows (P .entry) s slots (lacks .need))))
+      (λ n l h. omega arith)
 
   length-supplied : (slots : List Slot) → Serving P slots → length slots ≤ supplied (P .entry) slots (P .n)
   unfolding length

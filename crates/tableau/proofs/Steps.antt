@@ -47,7 +47,7 @@ module _ {P : Problem} {slots : List Slot} where
     -- ---- a set is taken
 
     few-or-enough : {k : ℕ} → Useful P slots b m → Kept P (taken b k ∷ slots)
-      → (k ≤ m) ⊎ ((i : ℕ) → Asks P true i → bitAt b i ≡ true → lo (P .entry i) ≤ served i (rowsOf slots) + m)
+        → (k ≤ m) ⊎ ((i : ℕ) → Asks P true i → bitAt b i ≡ true → lo (P .entry i) ≤ served i (rowsOf slots) + m)
     unfolding total
     few-or-enough u h = ⊎-map (λ (f : Full P slots b m). omega (arith, rw (f .broken) at (h .kept (f .limit) (f .asks)))) (λ q. q) (u .enough)
 
@@ -55,7 +55,8 @@ module _ {P : Problem} {slots : List Slot} where
     unfolding total
     useful-better u l h = record {
       serves = λ i a. gain-enough (bitAt b i) (served i (rowsOf slots)) (λ p. ⊎-map (λ q. q) (λ q. q i a p) (few-or-enough u h));
-      spares = λ i a. omega (arith, gain-le (not (bitAt b i)) l) }
+      spares = λ i a. omega (arith, gain-le (not (bitAt b i)) l);
+    }
 
     pub open-taken : Useful P slots b m → Open P slots (suc b) → Open P (taken b m ∷ slots) b
     open-taken u (next (copies k ok e)) =

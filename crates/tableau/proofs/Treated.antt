@@ -31,7 +31,7 @@ module _ (yes no pending : ℕ → Bool) (e : Entry) (i : ℕ) where
 
   -- an or that is wanted true, an and that is wanted false
   pub either-met : (b : Bool) → e .kind ≡ cond b 5 4 → pending i || (wanted yes no b (e .first) || wanted yes no b (e .second)) ≡ true
-    → rule yes no pending b e i ≡ true
+      → rule yes no pending b e i ≡ true
   unfolding rule
   either-met true k p = rw k p
   either-met false k p = rw k p
@@ -51,11 +51,11 @@ Grows p q p′ q′ = (b : Bool) (i : ℕ) → wanted p q b i ≡ true → wante
 module _ {yes no yes′ no′ : ℕ → Bool} (grows : Grows yes no yes′ no′) (pending pending′ : ℕ → Bool) (e : Entry) (i : ℕ)
     (still : pending i ≡ true → pending′ i ≡ true) where
   both-grows : (b : Bool) → wanted yes no b (e .first) && wanted yes no b (e .second) ≡ true
-    → wanted yes′ no′ b (e .first) && wanted yes′ no′ b (e .second) ≡ true
+      → wanted yes′ no′ b (e .first) && wanted yes′ no′ b (e .second) ≡ true
   both-grows b = and-grows (wanted yes no b (e .first)) (wanted yes no b (e .second)) (grows b (e .first)) (grows b (e .second))
 
   either-grows : (b : Bool) → pending i || (wanted yes no b (e .first) || wanted yes no b (e .second)) ≡ true
-    → pending′ i || (wanted yes′ no′ b (e .first) || wanted yes′ no′ b (e .second)) ≡ true
+      → pending′ i || (wanted yes′ no′ b (e .first) || wanted yes′ no′ b (e .second)) ≡ true
   either-grows b = or-grows (pending i) _ still (or-grows (wanted yes no b (e .first)) _ (grows b (e .first)) (grows b (e .second)))
 
   grows-of-kind : (k : ℕ) (b : Bool) → rule yes no pending b (ofKind k e) i ≡ true → rule yes′ no′ pending′ b (ofKind k e) i ≡ true
@@ -78,7 +78,7 @@ module _ {yes no yes′ no′ : ℕ → Bool} (grows : Grows yes no yes′ no′
 -- a disjunction with a part that is as wanted need not be pending
 module _ (yes no pending pending′ : ℕ → Bool) (e : Entry) (i : ℕ) where
   pub rule-split : (b c : Bool) → e .kind ≡ cond b 5 4 → wanted yes no b (e .first) || wanted yes no b (e .second) ≡ true
-    → rule yes no pending c e i ≡ true → rule yes no pending′ c e i ≡ true
+      → rule yes no pending c e i ≡ true → rule yes no pending′ c e i ≡ true
   unfolding rule
   rule-split true true k part r = rw (k, part, or-true)
   rule-split true false k part r = rw k (rw k at r)

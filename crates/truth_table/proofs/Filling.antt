@@ -14,8 +14,9 @@ module _ (s : Structure) (entry : ℕ → Entry) where
   filled-none words = record { same-length = refl; table = λ i h. absurd (not-suc-le-zero h); rest = λ i h. refl }
 
   pub filled-next : {n : ℕ} {before after : List ℕ} → Filled s entry n before after → n < length after
-    → Filled s entry (suc n) before (set after n (truthWord s entry n))
+      → Filled s entry (suc n) before (set after n (truthWord s entry n))
   filled-next {n} {before} {after} filled room = record {
     same-length = length-set after n (truthWord s entry n) ∙ filled .same-length;
     table = fill-below (truthWord s entry) (λ i. getD before i 0) n after (filled .table) (filled .rest) room;
-    rest = fill-behind (truthWord s entry) (λ i. getD before i 0) n after (filled .table) (filled .rest) }
+    rest = fill-behind (truthWord s entry) (λ i. getD before i 0) n after (filled .table) (filled .rest);
+  }

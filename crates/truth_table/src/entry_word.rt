@@ -14,7 +14,6 @@ ghost use Rattle.structure.specs.Check.{structureVerdict};
 ghost use Rattle.table.specs.Formulas.{formulaOf};
 ghost use Rattle.table.specs.Check.{usesOf};
 ghost use Rattle.truth_table.specs.Count.{within};
-
 use structure::read;
 use table::entry::Entry;
 
@@ -31,7 +30,11 @@ fn passes(to: u64, part: u64, grade: u32, least: bool) -> bool
     ensures { λ r. ⌜ r ≡ within least grade (ones (bitAnd to part)) ⌝ }
 {
     let count = u64::count_ones(to & part);
-    if least { grade <= count } else { count <= grade }
+    if least {
+        grade <= count
+    } else {
+        count <= grade
+    }
 }
 
 // The word of one world, or of none.

@@ -8,7 +8,6 @@ ghost use Rattle.structure.specs.Check.{structureVerdict};
 ghost use Rattle.table.specs.Entry.{entryAt, size};
 ghost use Rattle.table.specs.Check.{tableVerdict};
 ghost use Rattle.truth_table.specs.Board.{truthWord, Filled, boardVerdict, BoardAfter};
-
 use faults::Fault;
 use faults::Verdict;
 use packed::word_at;

@@ -14,6 +14,7 @@ pub fn pack(kind: u32, name: u32, first: u32, second: u32, grade: u32) -> u32 {
 
 // The entries of document 01, by their kinds. A reference is the number of an earlier entry.
 pub const TRUE: u32 = 0;
+
 pub const FALSE: u32 = 0x1000_0000;
 
 pub fn fact(name: u32) -> u32 {
@@ -66,7 +67,11 @@ pub fn chain(odd: u32, even: u32, name: u32, grade: u32) -> Room {
     put(&mut table, 0, fact(1));
     for first in 0..64 {
         let kind = if first % 2 == 0 { odd } else { even };
-        put(&mut table, first as usize + 1, pack(kind, name, first, 0, grade));
+        put(
+            &mut table,
+            first as usize + 1,
+            pack(kind, name, first, 0, grade),
+        );
     }
     table
 }

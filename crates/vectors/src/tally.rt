@@ -30,12 +30,20 @@ fn report(case: u32, got: u64, expected: u64) {
 
 impl Tally {
     pub fn new() -> Tally {
-        Tally { case: 0, run: 0, right: 0 }
+        Tally {
+            case: 0,
+            run: 0,
+            right: 0,
+        }
     }
 
     // Opens a subject with its thousand.
     pub fn subject(self, thousand: u32) -> Tally {
-        Tally { case: thousand, run: self.run, right: self.right }
+        Tally {
+            case: thousand,
+            run: self.run,
+            right: self.right,
+        }
     }
 
     // Counts a case, and reports it if it came out differently. The counts stay far below where they would wrap.
@@ -44,10 +52,18 @@ impl Tally {
         let run = std::num::wrapping_add_u32(self.run, 1);
         if got == expected {
             let right = std::num::wrapping_add_u32(self.right, 1);
-            return Tally { case: case, run: run, right: right };
+            return Tally {
+                case: case,
+                run: run,
+                right: right,
+            };
         }
         report(case, got, expected);
-        Tally { case: case, run: run, right: self.right }
+        Tally {
+            case: case,
+            run: run,
+            right: self.right,
+        }
     }
 
     // The last line, which opens with the program's name.

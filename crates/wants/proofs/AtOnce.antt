@@ -52,12 +52,13 @@ module _ {entry : ℕ → Entry} {n e : ℕ} {w : Wants} (asked : Asked entry n 
       let j = found .at in
       let same = both-parts true (eqb (entry j .kind) 2) _ (found .fact) in
       opposed b j (found .inside) (λ s v.
-        fact-rule (asked .formed) s v (asked .inside) (asked .settled .below (not b) j (found .inside)) k
-        (eqb-true _ _ (same .0)) (sym (eqb-true _ _ (same .1))))
+      fact-rule (asked .formed) s v (asked .inside) (asked .settled .below (not b) j (found .inside)) k
+      (eqb-true _ _ (same .0)) (sym (eqb-true _ _ (same .1))))
   fact-clash b k false none = record {
     constant = no-constant b _ (omega arith) (omega arith);
     fact = λ j p h kind same. none (record { at = j; inside = p; fact = rw (eq-eqb _ _ kind, eq-eqb _ _ (sym same)) });
-    least = λ h. absurd (omega arith) }
+    least = λ h. absurd (omega arith);
+  }
 
   -- at least 0 is never false
   pub least-clash : (b r : Bool) → entry e .kind ≡ 6 → not b && eqb (entry e .grade) 0 ≡ r → ClashIs entry b e w r

@@ -24,7 +24,8 @@ left-all p test = record { within = λ i h. h; passing = λ i h t. h }
 pub left-without : {p test rest : ℕ → Bool} {k : ℕ} → Left p test rest → test k ≡ false → Left p test (removed rest k)
 left-without {p} {test} {rest} {k} left fails = record {
   within = λ i h. left .within i (both-parts true (not (eqb i k)) (rest i) h .1);
-  passing = λ i h t. rw (ne-eqb i k (λ (e : i ≡ k). true≢false (sym t ∙ ap test e ∙ fails)), left .passing i h t) }
+  passing = λ i h t. rw (ne-eqb i k (λ (e : i ≡ k). true≢false (sym t ∙ ap test e ∙ fails)), left .passing i h t);
+}
 
 -- one member less
 pub count-removed : (p : ℕ → Bool) {k : ℕ} (n : ℕ) → p k ≡ true → k < n → count (removed p k) n < count p n
@@ -33,6 +34,6 @@ count-removed p zero h l = absurd (not-suc-le-zero l)
 count-removed p {k} (suc n) h l =
     ⊎-elim
     (λ (e : k ≡ n).
-      rw (← e, eq-eqb k k refl, h) (omega (arith, count-mono {p = removed p k} {q = p} k (λ i b r. both-parts true (not (eqb i k)) (p i) r .1))))
+    rw (← e, eq-eqb k k refl, h) (omega (arith, count-mono {p = removed p k} {q = p} k (λ i b r. both-parts true (not (eqb i k)) (p i) r .1))))
     (λ (b : k < n). rw (ne-eqb n k (omega arith)) (omega (arith, count-removed p n h b)))
     (eq-or-lt-of-le (le-of-suc-le-suc l))

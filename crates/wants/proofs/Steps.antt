@@ -64,26 +64,28 @@ module _ {entry : ℕ → Entry} {n : ℕ} where
       grows = λ d j h. taken .grows d j (reached .grows d j h);
       meets = λ s v m t. taken .meets s v (reached .meets s v m t) (part .follows s v t);
       pending-new = λ j h. ⊎-elim (reached .pending-new j) (λ (l : j ≤ i). inr (omega (arith, part .below))) (taken .pending-new j h);
-      no-deeper = λ d j h. ⊎-elim (reached .no-deeper d j) (λ (l : depthAt entry j ≤ depthAt entry i). inr (le-trans l (part .no-deeper))) (taken .no-deeper d j h) }
+      no-deeper = λ d j h. ⊎-elim (reached .no-deeper d j) (λ (l : depthAt entry j ≤ depthAt entry i). inr (le-trans l (part .no-deeper))) (taken .no-deeper d j h);
+    }
 
     part-clash : {c : Bool} {i : ℕ} → Part entry b e c i → Refuted entry c i w₁ → Refuted entry b e w
     part-clash part clash s v m t = clash s v (reached .meets s v m t) (part .follows s v t)
 
     put-taken : (o : Bool) {w′ : Wants} → e < n → rule (member (w₁ .yes)) (member (w₁ .no)) (addedIf o (member (w₁ .pending)) e) b (entry e) e ≡ true
-      → (o ≡ true → entry e .kind ≡ cond b 5 4) → NoSameFact entry (wantedW w₁ (not b)) e → Put b o e w₁ w′ → Taken entry n b e w w′
+        → (o ≡ true → entry e .kind ≡ cond b 5 4) → NoSameFact entry (wantedW w₁ (not b)) e → Put b o e w₁ w′ → Taken entry n b e w w′
     put-taken o inside met splits new put = record {
       settled = rw (put .yes, put .no, put .pending) (put-settled (reached .settled) b o e inside met splits new);
       grows = rw (put .yes, put .no) (λ c i h. put-grows _ _ e b c i (reached .grows c i h));
       has = rw (put .yes, put .no) (put-self _ _ e b);
       meets = λ s v m t. rw (put .yes, put .no) (put-meets b e t (reached .meets s v m t));
       pending-new = λ i h. ⊎-elim (reached .pending-new i) (λ (at : i ≡ e). inr (le-of-eq at)) (added-cases _ e i o (rw (put .pending) at h));
-      no-deeper = λ c i h. ⊎-elim (reached .no-deeper c i) (λ (at : i ≡ e). inr (le-of-eq (ap (depthAt entry) at))) (put-cases _ _ e i b c (rw (put .yes, put .no) at h)) }
+      no-deeper = λ c i h. ⊎-elim (reached .no-deeper c i) (λ (at : i ≡ e). inr (le-of-eq (ap (depthAt entry) at))) (put-cases _ _ e i b c (rw (put .yes, put .no) at h));
+    }
 
   module _ {b : Bool} {e : ℕ} {w w₁ : Wants} (reached : Reached entry n b e w w₁) where
     -- after the last part the entry itself is put in
     last-part : {c : Bool} {i : ℕ} → Part entry b e c i → e < n → (entry e .kind ≡ 2 → ⊥)
-      → ((w₂ : Wants) → GrowsW w₁ w₂ → wantedW w₂ c i ≡ true → rule (member (w₂ .yes)) (member (w₂ .no)) (member (w₂ .pending)) b (entry e) e ≡ true)
-      → (o r : Outcome) → OutcomeIs entry n c i w₁ o → PutAfter b e o r → OutcomeIs entry n b e w r
+        → ((w₂ : Wants) → GrowsW w₁ w₂ → wantedW w₂ c i ≡ true → rule (member (w₂ .yes)) (member (w₂ .no)) (member (w₂ .pending)) b (entry e) e ≡ true)
+        → (o r : Outcome) → OutcomeIs entry n c i w₁ o → PutAfter b e o r → OutcomeIs entry n b e w r
     last-part part inside no-fact met (Outcome.Settled w₂) (Outcome.Settled w′) taken put =
         put-taken (with-part reached part taken) false inside (met w₂ (taken .grows) (taken .has)) (λ o. absurd (false≢true o)) (λ j p k. absurd (no-fact k)) put
     last-part part inside no-fact met (Outcome.Settled w₂) Outcome.Clash taken put = absurd put
@@ -126,8 +128,8 @@ constant-right false k (inr h) wrong = h
 
 -- the rule of a kind without parts at this world is met where nothing stands against the entry
 plain-met : {entry : ℕ → Entry} {b : Bool} {e : ℕ} {w : Wants} → Free entry b e w → entry e .kind < 8
-  → (entry e .kind ≡ 3 → ⊥) → (entry e .kind ≡ 4 → ⊥) × (entry e .kind ≡ 5 → ⊥)
-  → rule (member (w .yes)) (member (w .no)) (member (w .pending)) b (entry e) e ≡ true
+    → (entry e .kind ≡ 3 → ⊥) → (entry e .kind ≡ 4 → ⊥) × (entry e .kind ≡ 5 → ⊥)
+    → rule (member (w .yes)) (member (w .no)) (member (w .pending)) b (entry e) e ≡ true
 plain-met {entry} {b} {e} {w} free known no-not neither =
     by-kind (λ k. entry e .kind ≡ k → rule (member (w .yes)) (member (w .no)) (member (w .pending)) b (entry e) e ≡ true)
     (λ k. constant-met _ _ _ (entry e) e b (constant-right b _ (inl k) (free .constant)))
@@ -154,10 +156,11 @@ module _ {entry : ℕ → Entry} {n e : ℕ} {w : Wants} (asked : Asked entry n 
     turned-part i step = record {
       below = rw (step .1) (asked .formed e (asked .inside) .first (rw (step .0)));
       follows = λ s v t. rw (step .1) (not-rule (asked .formed) s v (asked .inside) b (step .0) t);
-      no-deeper = rw (step .1, depth-rule (asked .formed) e (asked .inside)) (not-depth _ _ _ (step .0)) }
+      no-deeper = rw (step .1, depth-rule (asked .formed) e (asked .inside)) (not-depth _ _ _ (step .0));
+    }
 
     pub turned-outcome : (i : ℕ) → StepIs entry n b e w (Step.Turned i)
-      → (o r : Outcome) → OutcomeIs entry n (not b) i w o → PutAfter b e o r → OutcomeIs entry n b e w r
+        → (o r : Outcome) → OutcomeIs entry n (not b) i w o → PutAfter b e o r → OutcomeIs entry n b e w r
     turned-outcome i step =
         last-part (start (asked .settled)) (turned-part i step) (asked .inside) (λ k. omega (arith, step .0))
         (λ w₂ grows has. not-met _ _ _ (entry e) e b (step .0) (rw (step .1) at has))
@@ -167,13 +170,15 @@ module _ {entry : ℕ → Entry} {n e : ℕ} {w : Wants} (asked : Asked entry n 
       first-part = record {
         below = rw (step .1) (asked .formed e (asked .inside) .first (both-kind-uses b _ (step .0) .0));
         follows = λ s v t. rw (step .1) (both-rule (asked .formed) s v (asked .inside) b (step .0) t .0);
-        no-deeper = rw (step .1, depth-rule (asked .formed) e (asked .inside)) (both-depth b _ _ _ (step .0) .0) }
+        no-deeper = rw (step .1, depth-rule (asked .formed) e (asked .inside)) (both-depth b _ _ _ (step .0) .0);
+      }
 
       pub second-part : Part entry b e b j
       second-part = record {
         below = rw (step .2) (asked .formed e (asked .inside) .second (both-kind-uses b _ (step .0) .1));
         follows = λ s v t. rw (step .2) (both-rule (asked .formed) s v (asked .inside) b (step .0) t .1);
-        no-deeper = rw (step .2, depth-rule (asked .formed) e (asked .inside)) (both-depth b _ _ _ (step .0) .1) }
+        no-deeper = rw (step .2, depth-rule (asked .formed) e (asked .inside)) (both-depth b _ _ _ (step .0) .1);
+      }
 
       pub first-clash : Refuted entry b i w → Refuted entry b e w
       first-clash = part-clash (start (asked .settled)) first-part
@@ -185,7 +190,7 @@ module _ {entry : ℕ → Entry} {n e : ℕ} {w : Wants} (asked : Asked entry n 
 
     -- No part comes first: the entry is pending where one of its parts is enough, and else its rule is met as it is.
     pub rest-taken : {w′ : Wants} → Free entry b e w → (entry e .kind ≡ 3 → ⊥) → (entry e .kind ≡ cond b 4 5 → ⊥)
-      → (o : Bool) → eqb (entry e .kind) (cond (not b) 4 5) ≡ o → Put b o e w w′ → Taken entry n b e w w′
+        → (o : Bool) → eqb (entry e .kind) (cond (not b) 4 5) ≡ o → Put b o e w w′ → Taken entry n b e w w′
     rest-taken free no-not no-both true is =
         let k = either-kind b (eqb-true (entry e .kind) _ is) in
         put-taken (start (asked .settled)) true (asked .inside) (either-met _ _ _ (entry e) e b k (rw (eq-eqb e e refl))) (λ o. k) (free .fact)

@@ -10,7 +10,6 @@ ghost use Rattle.tableau.specs.Wants.{addedIf, Answers};
 ghost use Rattle.wide.specs.Wide.{wideAt};
 ghost use Rattle.wants.specs.Outcome.{wantedW, Asked, OutcomeIs};
 ghost use Rattle.wants.specs.Step.{Put, PutAfter, isFact, HasFact, ClashIs, StepIs};
-
 use sets::Highest;
 use sets::Set;
 use wide::wide_at;

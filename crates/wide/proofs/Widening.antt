@@ -23,13 +23,14 @@ pub widened-none : (bytes : List ℕ) (n : ℕ) → Widened bytes 0 (replicate n
 widened-none bytes n = record { below = λ i h. absurd (not-suc-le-zero h); behind = λ i h. zeros-at n i }
 
 pub widened-next : {bytes : List ℕ} {n : ℕ} {words : List ℕ} → Widened bytes n words → (x : ℕ) → n < length words → wideOf x ≡ entryAt bytes n
-  → Widened bytes (suc n) (set words n x)
+    → Widened bytes (suc n) (set words n x)
 widened-next {bytes} {n} {words} held x room e = record {
   below = λ i h. ⊎-elim
-    (λ (at : i ≡ n). rw at (ap wideOf (getD-set-same words n x 0 room) ∙ e))
-    (λ (l : i < n). ap wideOf (getD-set-other words n i x 0 (omega arith)) ∙ held .below i l)
-    (eq-or-lt-of-le (le-of-suc-le-suc h));
-  behind = λ i h. getD-set-other words n i x 0 (omega arith) ∙ held .behind i (omega arith) }
+      (λ (at : i ≡ n). rw at (ap wideOf (getD-set-same words n x 0 room) ∙ e))
+      (λ (l : i < n). ap wideOf (getD-set-other words n i x 0 (omega arith)) ∙ held .below i l)
+      (eq-or-lt-of-le (le-of-suc-le-suc h));
+  behind = λ i h. getD-set-other words n i x 0 (omega arith) ∙ held .behind i (omega arith);
+}
 
 -- entries that agree below n have the same formulas there
 formulas-ext : {entry entry′ : ℕ → Entry} (n : ℕ) → ((i : ℕ) → i < n → entry i ≡ entry′ i) → formulas entry n ≡ formulas entry′ n

@@ -3,7 +3,6 @@ ghost use mathlib.Core.Path.{_≡_};
 ghost use Prim.Native.Nat.{_≤_};
 ghost use Rattle.table.specs.Entry.{size};
 ghost use Rattle.wide.specs.Wide.{wideOf, wideAt, FitsWide, Widened};
-
 use packed::word_at;
 use table::entry;
 use table::entry::Entry;

@@ -18,14 +18,14 @@ use Rattle.truth_table.proofs.board.Tie as tie
 
 -- what an accepted call meets
 met : (bytes packed : List ℕ) (words : ℕ) → boardVerdict bytes packed words ≡ Accepted
-  → (tableVerdict bytes ≡ Accepted) × (structureVerdict packed ≡ Accepted) × (size bytes ≤ words)
+    → (tableVerdict bytes ≡ Accepted) × (structureVerdict packed ≡ Accepted) × (size bytes ≤ words)
 met bytes packed words ok =
     let first = both-accepted (tableVerdict bytes) _ ok in
     let second = both-accepted (structureVerdict packed) _ (first .1) in
     (first .0, second .0, ltb-false words (size bytes) (not-refused (ltb words (size bytes)) Space (second .1)))
 
 accepted : (c : tie.After-enum-told)
-  → boardVerdict (c .before .before .before .before .before .before .args .table .now) (c .before .before .before .before .before .before .args .packed .now)
+    → boardVerdict (c .before .before .before .before .before .before .args .table .now) (c .before .before .before .before .before .before .args .packed .now)
     (length (c .before .before .before .before .before .before .args .words .now)) ≡ Accepted
 accepted c = sym (c .before .before .checked .ensures) ∙ c .enum-told .given .1
 

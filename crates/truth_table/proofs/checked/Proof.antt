@@ -13,24 +13,27 @@ returns c =
 returns-2 : tie.Need-returns-2
 returns-2 c =
     let found = c .enum-told4 .given .1 in
-    simp
-    (sym (c .before .before .before .before .before .check .ensures) ∙ c .before .before .before .enum-told .given .1
-    , sym (c .before .before .check2 .ensures) ∙ found)
+    simp (
+      sym (c .before .before .before .before .before .check .ensures) ∙ c .before .before .before .enum-told .given .1,
+      sym (c .before .before .check2 .ensures) ∙ found,
+    )
     found
 
 returns-3 : tie.Need-returns-3
 returns-3 c =
-    simp
-    (sym (c .before .before .before .before .before .before .check .ensures) ∙ c .before .before .before .before .enum-told .given .1
-    , sym (c .before .before .before .check2 .ensures) ∙ c .before .enum-told3 .given .1
-    , lt-ltb _ _ (c .if1 .taken))
+    simp (
+      sym (c .before .before .before .before .before .before .check .ensures) ∙ c .before .before .before .before .enum-told .given .1,
+      sym (c .before .before .before .check2 .ensures) ∙ c .before .enum-told3 .given .1,
+      lt-ltb _ _ (c .if1 .taken),
+    )
 
 returns-4 : tie.Need-returns-4
 returns-4 c =
-    simp
-    (sym (c .before .before .before .before .before .before .check .ensures) ∙ c .before .before .before .before .enum-told .given .1
-    , sym (c .before .before .before .check2 .ensures) ∙ c .before .enum-told3 .given .1
-    , le-ltb _ _ (c .if1 .left))
+    simp (
+      sym (c .before .before .before .before .before .before .check .ensures) ∙ c .before .before .before .before .enum-told .given .1,
+      sym (c .before .before .before .check2 .ensures) ∙ c .before .enum-told3 .given .1,
+      le-ltb _ _ (c .if1 .left),
+    )
 
 pub checked-spec : {M : Type 1} → statement M
 checked-spec =

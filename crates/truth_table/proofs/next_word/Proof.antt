@@ -22,8 +22,8 @@ returns c =
     let same = c .before .before .before .before .before .entry-at .ensures in
     let fits : Fitting (c .before .before .before .before .before .entry-at .result) (a .i) = rw same (wf (a .i) (start .pre .2)) in
     c .entry-word .ensures (formulaAt entry)
-      (λ u. c .before .before .before .word-at .ensures ∙ start .pre .3 _ (fits .first u))
-      (λ u. c .before .word-at2 .ensures ∙ start .pre .3 _ (fits .second u))
+    (λ u. c .before .before .before .word-at .ensures ∙ start .pre .3 _ (fits .first u))
+    (λ u. c .before .word-at2 .ensures ∙ start .pre .3 _ (fits .second u))
     ∙ ap (λ (e : Entry). word (truth s (formulaOf (formulaAt entry) e)) (s .worlds)) same
     ∙ ap (λ (φ : Formula). word (truth s φ) (s .worlds)) (sym (formula-rule wf (a .i) (start .pre .2)))
 

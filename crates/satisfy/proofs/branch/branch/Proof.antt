@@ -28,7 +28,7 @@ want-requires-2 c κs =
 
 -- the first part, wanted the other way
 turned : (c : tie.After-v)
-  → Taken (wideAt (c .before .before .before .before .before .before .before .before .before .args .entries .now))
+    → Taken (wideAt (c .before .before .before .before .before .before .before .before .before .args .entries .now))
     (length (c .before .before .before .before .before .before .before .before .before .args .entries .now))
     (not (serving (wideAt (c .before .before .before .before .before .before .before .before .before .args .entries .now)) (c .before .before .before .before .before .before .before .before .before .args .d)))
     (wideAt (c .before .before .before .before .before .before .before .before .before .args .entries .now) (c .before .before .before .before .before .before .before .before .before .args .d) .first)

@@ -12,7 +12,7 @@ use Rattle.satisfy.proofs.promise.want_part.Tie as tie
 
 -- what the need comes to
 one : (c : tie.After-u)
-  → Held (wideAt (c .before .before .before .before .before .before .before .before .args .entries .now)) (length (c .before .before .before .before .before .before .before .before .args .entries .now))
+    → Held (wideAt (c .before .before .before .before .before .before .before .before .args .entries .now)) (length (c .before .before .before .before .before .before .before .before .args .entries .now))
     (onlyIf (asks (c .before .before .before .before .before .before .before .before .args .q) (wideAt (c .before .before .before .before .before .before .before .before .args .entries .now) (c .before .before .before .before .before .before .before .before .args .i)) (c .before .before .before .before .before .before .before .before .args .i) true) true)
     (wideAt (c .before .before .before .before .before .before .before .before .args .entries .now) (c .before .before .before .before .before .before .before .before .args .i) .first)
     (c .before .before .before .before .before .before .before .before .args .v) (c .u .given .0 .0)

@@ -13,14 +13,14 @@ returns : tie.Need-returns
 returns c =
     let a = c .before .before .before .before .args in
     let is : need (member (a .w .yes)) (member (a .w .no)) (a .e) (a .i) ≡ true =
-          sym (asks-own (c .before .before .before .question .ensures) (a .i) true) ∙ sym (c .before .before .asks .ensures) ∙ c .before .if1 .taken in
+    sym (asks-own (c .before .before .before .question .ensures) (a .i) true) ∙ sym (c .before .before .asks .ensures) ∙ c .before .if1 .taken in
     rw is (c .with .ensures)
 
 returns-2 : tie.Need-returns-2
 returns-2 c =
     let a = c .before .before .before .before .before .before .args in
     let is : limit (member (a .w .yes)) (member (a .w .no)) (a .e) (a .i) ≡ true =
-          sym (asks-own (c .before .before .before .before .before .question .ensures) (a .i) false) ∙ sym (c .before .before .asks2 .ensures) ∙ c .before .if2 .taken in
+    sym (asks-own (c .before .before .before .before .before .question .ensures) (a .i) false) ∙ sym (c .before .before .asks2 .ensures) ∙ c .before .if2 .taken in
     rw (is, or-true) (c .with2 .ensures)
 
 returns-3 : tie.Need-returns-3
@@ -28,9 +28,9 @@ returns-3 c =
     let a = c .before .before .before .before .before .args in
     let own = c .before .before .before .before .question .ensures in
     let no-need : need (member (a .w .yes)) (member (a .w .no)) (a .e) (a .i) ≡ false =
-          sym (asks-own own (a .i) true) ∙ sym (c .before .before .before .asks .ensures) ∙ c .before .before .if1 .left in
+    sym (asks-own own (a .i) true) ∙ sym (c .before .before .before .asks .ensures) ∙ c .before .before .if1 .left in
     let no-limit : limit (member (a .w .yes)) (member (a .w .no)) (a .e) (a .i) ≡ false =
-          sym (asks-own own (a .i) false) ∙ sym (c .before .asks2 .ensures) ∙ c .if2 .left in
+    sym (asks-own own (a .i) false) ∙ sym (c .before .asks2 .ensures) ∙ c .if2 .left in
     rw (no-need, no-limit) refl
 
 pub with-counting-spec : {M : Type 1} → statement M

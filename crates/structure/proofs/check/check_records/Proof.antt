@@ -25,7 +25,7 @@ loop-holds c = (search needs, refl)
 
 -- what the call says of record i
 here : (c : tie.After-check-record Inv-loop μ-loop)
-  → let row = recordAt (c .before .before .before .before .before .before .args .bytes .now) in
+    → let row = recordAt (c .before .before .before .before .before .before .args .bytes .now) in
     let i = c .before .before .before .loop .i in
     c .check-record .result ≡ recordVerdict (row i) i (worldsOf row)
 unfolding stated

@@ -26,7 +26,7 @@ loop-holds c = (search needs, sym (some-word-none _ _))
 
 -- the call gives the word of what record i states
 here : (c : tie.After-one-world Inv-loop μ-loop)
-  → let a = c .before .before .before .before .before .args in
+    → let a = c .before .before .before .before .before .args in
     let row = recordAt (a .bytes .now) in
     c .one-world .result ≡ word (statesFact (row (c .before .before .before .loop .i)) (a .name)) (worldsOf row)
 here c =

@@ -28,7 +28,7 @@ loop-holds c = (search needs, refl)
 
 -- what the list holds at i
 here : (c : tie.In-loop Inv-loop μ-loop)
-  → getD (c .before .before .depths .result) (c .before .loop .i) 0 ≡ depthAt (entryAt (c .before .before .before .before .args .table .now)) (c .before .loop .i)
+    → getD (c .before .before .depths .result) (c .before .loop .i) 0 ≡ depthAt (entryAt (c .before .before .before .before .args .table .now)) (c .before .loop .i)
 here c = c .before .before .depths .ensures .below (c .before .loop .i) (c .loop-test .taken)
 
 returns : tie.Need-returns Inv-loop μ-loop

@@ -30,7 +30,7 @@ references c =
 
 -- what the call says of entry i
 here : (c : tie.After-depth-of Inv-loop μ-loop)
-  → c .depth-of .result ≡ depthAt (entryAt (c .before .before .before .before .before .before .before .args .table .now)) (c .before .before .before .before .before .loop .i)
+    → c .depth-of .result ≡ depthAt (entryAt (c .before .before .before .before .before .before .before .args .table .now)) (c .before .before .before .before .before .loop .i)
 here c =
     let entry = entryAt (c .before .before .before .before .before .before .before .args .table .now) in
     let l = c .before .before .before .before .before .loop in

@@ -27,7 +27,7 @@ weight-of-requires c κs =
 
 -- what the call says of entry i
 here : (c : tie.After-weight-of Inv-loop μ-loop)
-  → c .weight-of .result ≡ weight (entryAt (c .before .before .before .before .before .args .table .now) (c .before .before .before .loop .i))
+    → c .weight-of .result ≡ weight (entryAt (c .before .before .before .before .before .args .table .now) (c .before .before .before .loop .i))
 here c = cc
 
 add-sum : tie.Need-add-sum Inv-loop μ-loop

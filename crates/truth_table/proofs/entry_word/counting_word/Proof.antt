@@ -18,7 +18,7 @@ use Rattle.truth_table.proofs.entry_word.counting_word.Tie as tie
 abbrev Inv-loop : tie.InvT-loop
 Inv-loop packed relation grade part least to worlds holds₀ w₀ holds w =
     (w ≤ worlds) × ((p : ℕ → Bool) → part ≡ word p (structureOf packed .worlds)
-      → holds ≡ word (λ v. within least grade (successors (structureOf packed) relation v p)) w)
+    → holds ≡ word (λ v. within least grade (successors (structureOf packed) relation v p)) w)
 
 abbrev μ-loop : tie.MeasureT-loop
 μ-loop packed relation grade part least to worlds holds₀ w₀ holds w = worlds - w
@@ -29,11 +29,11 @@ loop-holds c = (search needs, λ p h. refl)
 
 -- the bit of the world w: the ones of two words are the successors that pass
 here : (c : tie.After-at-world Inv-loop μ-loop) (p : ℕ → Bool)
-  → c .before .before .before .before .before .before .before .args .part ≡ word p (structureOf (c .before .before .before .before .before .before .before .args .packed .now) .worlds)
-  → c .before .passes .result
+    → c .before .before .before .before .before .before .before .args .part ≡ word p (structureOf (c .before .before .before .before .before .before .before .args .packed .now) .worlds)
+    → c .before .passes .result
     ≡ within (c .before .before .before .before .before .before .before .args .least) (c .before .before .before .before .before .before .before .args .grade)
-      (successors (structureOf (c .before .before .before .before .before .before .before .args .packed .now))
-      (c .before .before .before .before .before .before .before .args .relation) (c .before .before .before .loop .w) p)
+    (successors (structureOf (c .before .before .before .before .before .before .before .args .packed .now))
+    (c .before .before .before .before .before .before .before .args .relation) (c .before .before .before .loop .w) p)
 here c p h =
     let a = c .before .before .before .before .before .before .before .args in
     let s = structureOf (a .packed .now) in

@@ -10,11 +10,12 @@ returns : tie.Need-returns
 returns c =
     let w = c .args .word in
     λ i. record {
-        kind = and-mask (w / 2 ^ 28) 4 i;
-        name = and-mask (w / 2 ^ 20) 8 i;
-        first = and-mask (w / 2 ^ 14) 6 i;
-        second = and-mask (w / 2 ^ 8) 6 i;
-        grade = (and-mask w 8 ∙ ap (λ (x : ℕ). x % 256) (sym (div-one w))) i }
+      kind = and-mask (w / 2 ^ 28) 4 i;
+      name = and-mask (w / 2 ^ 20) 8 i;
+      first = and-mask (w / 2 ^ 14) 6 i;
+      second = and-mask (w / 2 ^ 8) 6 i;
+      grade = (and-mask w 8 ∙ ap (λ (x : ℕ). x % 256) (sym (div-one w))) i;
+    }
 
 pub unpack-spec : {M : Type 1} → statement M
 unpack-spec = tie.close (tie.spec returns)
