@@ -195,3 +195,13 @@ module _ (P : Problem) (promises : ℕ → Bool) (depth : ℕ) (all : Promising 
         meets = part .follows (here .structure) (here .world) (here .keeps);
       };
     }
+
+-- fewer promises
+pub promising-fewer : {P : Problem} {promises fewer : ℕ → Bool} {depth : ℕ} → Promising P promises depth → Within fewer promises → Promising P fewer depth
+promising-fewer all within = record {
+  formed = all .formed;
+  few = all .few;
+  below = all .below;
+  within = λ i h. all .within i (within i h);
+  shallow = all .shallow;
+}

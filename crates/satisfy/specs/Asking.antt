@@ -60,6 +60,12 @@ module _ (P : Problem) where
     pub all-asking : member all ≡ asking P
     pub room : Roomy (P .entry) (P .n) depth level words
 
+  -- promises of needs and limits of the problem
+  pub record PromisesAsked (promises : Set) (depth level words : ℕ) : Type 0 where
+    pub promising : Promising P (member promises) (depth - 1)
+    pub deep : 0 < depth
+    pub room : Roomy (P .entry) (P .n) depth level words
+
   -- can the promises be kept; the words of the level are as before
   pub record Kept (promises : Set) (level : ℕ) (before after : List ℕ) (r : Bool) : Type 0 where
     pub answers : Answers r (Fit P (code promises))
