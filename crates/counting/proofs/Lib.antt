@@ -3,3 +3,9 @@
 pub mod Asking
 -- slots in words
 pub mod Slots
+-- what the slots lack and leave
+pub mod Measures
+-- the search stands in the words
+pub mod Standing
+-- words that are lent on between two steps
+pub mod Lent

@@ -35,10 +35,9 @@ put-made words k b m room =
     record {
       same-length = simp length-set;
       here = ap₂ taken
-          (getD-set-other once (2 * k + 1) (2 * k) m 0 (omega arith) ∙ getD-set-same words (2 * k) b 0 (omega arith))
-          (getD-set-same once (2 * k + 1) m 0 (simp length-set (omega arith)));
-      below = λ j l. ap₂ taken (at (2 * j) 0 (omega arith)) (at (2 * j + 1) 0 (omega arith));
-    }
+        (getD-set-other once (2 * k + 1) (2 * k) m 0 (omega arith) ∙ getD-set-same words (2 * k) b 0 (omega arith))
+        (getD-set-same once (2 * k + 1) m 0 (simp length-set (omega arith)));
+      below = λ j l. ap₂ taken (at (2 * j) 0 (omega arith)) (at (2 * j + 1) 0 (omega arith)) }
 
 module _ {words after : List ℕ} {k b m : ℕ} (put : Put words k b m after) where
   pub put-slots : slotsOf after (suc k) ≡ taken b m ∷ slotsOf words k

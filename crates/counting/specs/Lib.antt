@@ -3,3 +3,7 @@
 pub mod Question
 -- the stack of slots in lent words
 pub mod Stack
+-- what the slots lack and leave
+pub mod Bounds
+-- what holds between the steps of the search
+pub mod Search

@@ -18,6 +18,11 @@ slotsOf words (suc k) = slotAt words k ∷ slotsOf words k
 abbrev pub FewCopies : List ℕ → ℕ → Type 0
 FewCopies words k = (j : ℕ) → j < k → slotAt words j .copies ≤ 4096
 
+-- few slots, with few copies: no tally of them wraps
+pub record Few (words : List ℕ) (k : ℕ) : Type 0 where
+  pub slots : k ≤ 262144
+  pub copies : FewCopies words k
+
 -- those that promise are counted (promised true), or those that do not
 abbrev pub counts : (promised promises : Bool) → Bool
 counts promised promises = cond promised promises (not promises)

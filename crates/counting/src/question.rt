@@ -9,6 +9,7 @@ ghost use Rattle.tableau.specs.Wants.{wanted, addedIf};
 ghost use Rattle.tableau.specs.Counting.{bound, speaks, lo, hi};
 ghost use Rattle.tableau.specs.Search.{asking};
 ghost use Rattle.counting.specs.Question.{problemOf, asks, Small};
+
 use sets::Set;
 use table::entry::Entry;
 use wide::wide_at;
@@ -45,11 +46,7 @@ pub fn asks(e: Entry, q: Question, i: usize, need: bool) -> bool
 {
     let name = e.name;
     let relation = q.relation;
-    if name == relation {
-        is_bound(e, q, i, need)
-    } else {
-        false
-    }
+    if name == relation { is_bound(e, q, i, need) } else { false }
 }
 
 // A difference, 0 where it would be negative.

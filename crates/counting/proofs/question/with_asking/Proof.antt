@@ -6,12 +6,12 @@ use Rattle.counting.proofs.question.with_asking.Statement.{statement}
 use Rattle.counting.proofs.question.with_asking.Tie as tie
 
 returns : tie.Need-returns
-returns c =
+returns c = 
     let yes = sym (c .before .before .asks .ensures) ∙ c .before .if1 .taken in
     rw (and-or-distrib-left, yes) (c .with .ensures)
 
 returns-2 : tie.Need-returns-2
-returns-2 c =
+returns-2 c = 
     let yes = sym (c .before .before .asks2 .ensures) ∙ c .before .if2 .taken in
     rw (and-or-distrib-left, yes, or-true) (c .with2 .ensures)
 

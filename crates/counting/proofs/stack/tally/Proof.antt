@@ -28,12 +28,8 @@ share-le c =
     let j = c .before .before .loop .j in
     let a = c .before .before .before .before .args in
     let slot = slotAt (a .words .now) j in
-    omega (
-      arith,
-      c .share .ensures,
-      gain-le (counts (a .promised) (bitAt (slot .code) (a .i))) (slot .copies),
-      c .before .before .before .before .pre .1 j (c .before .loop-test .taken),
-    )
+    omega (arith, c .share .ensures, gain-le (counts (a .promised) (bitAt (slot .code) (a .i))) (slot .copies),
+      c .before .before .before .before .pre .copies j (c .before .loop-test .taken))
 
 loop-again : tie.Need-loop-again Inv-loop μ-loop
 unfolding slotsOf total
