@@ -6,7 +6,6 @@ use Prim.Native.Nat.{ℕ, suc, _<_, _≤_}
 use native.Mathlib.Nat.{eq-or-lt-of-le, le-of-suc-le-suc, not-suc-le-zero, lt-irrefl}
 use native.Mathlib.Decide.{decLt}
 use native.Mathlib.Omega.{arith}
-use lib.Dec.{eqb}
 use borrow.Author.Tests.{eq-eqb, ne-eqb}
 use Rattle.table.specs.declared.entry.Entry.{Entry}
 use Rattle.tableau.specs.Wants.{wanted, addedIf}
@@ -47,10 +46,11 @@ module _ (p : ℕ → Bool) where
   pub upto-next : {n : ℕ} {found : ℕ → Bool} → Upto p n found → Upto p (suc n) (addedIf (p n) found n)
   upto-next {n} {found} u = record {
     below = λ j l. ⊎-elim
-      (λ (e : j ≡ n). rw e (added-here (p n) found n (u .behind n (omega arith))))
-      (λ (less : j < n). added-other (p n) found n j (omega arith) ∙ u .below j less)
-      (eq-or-lt-of-le (le-of-suc-le-suc l));
-    behind = λ j l. added-other (p n) found n j (omega arith) ∙ u .behind j (omega arith) }
+        (λ (e : j ≡ n). rw e (added-here (p n) found n (u .behind n (omega arith))))
+        (λ (less : j < n). added-other (p n) found n j (omega arith) ∙ u .below j less)
+        (eq-or-lt-of-le (le-of-suc-le-suc l));
+    behind = λ j l. added-other (p n) found n j (omega arith) ∙ u .behind j (omega arith);
+  }
 
 untrue : (x : Bool) → (x ≡ true → ⊥) → x ≡ false
 untrue true h = absurd (h refl)

@@ -1,15 +1,15 @@
 -- Words that are lent on between two steps. The search looks at the first words only, those of its slots.
-use mathlib.Core.Path.{_≡_, refl, sym, ap, ap₂, _∙_}
+use mathlib.Core.Path.{_≡_, sym, ap, ap₂, _∙_}
 use mathlib.Core.List.{List}
 use Prim.Native.Nat.{ℕ, _*_, _+_, _<_, _≤_}
 use native.Mathlib.Omega.{arith}
 use lib.ListN.{length, take, getD}
 use lib.Seq.{getD-take}
 use Rattle.sets.specs.declared.Set.{Set}
-use Rattle.tableau.specs.Search.{Problem, Slot, taken, potential}
+use Rattle.tableau.specs.Search.{Problem, Slot, taken}
 use Rattle.counting.specs.declared.Cursor.{Cursor}
 use Rattle.counting.specs.Stack.{slotAt, slotsOf}
-use Rattle.counting.specs.Search.{untried, toDo, Standing, Asked}
+use Rattle.counting.specs.Search.{toDo, Standing, Asked}
 use Rattle.counting.proofs.Slots.{slots-same}
 
 -- as many words, of which the first n are the same
@@ -26,15 +26,22 @@ module _ (words others : List ℕ) (as-many : length others ≡ length words) (n
 
     pub standing-kept : {P : Problem} {all : Set} {t : ℕ} → Standing P all words k t → Standing P all others k t
     standing-kept s = record {
-      problem = s .problem; all-asking = s .all-asking; room = rw as-many (s .room);
+      problem = s .problem;
+      all-asking = s .all-asking;
+      room = rw as-many (s .room);
       copies = λ j l. omega (arith, ap (λ (x : Slot). x .copies) (slot-kept j l), s .copies j l);
-      searching = rw slots-kept (s .searching) }
+      searching = rw slots-kept (s .searching);
+    }
 
   module _ (c : Cursor) (fits : 2 * c .slots ≤ n) where
     pub asked-kept : {P : Problem} {all : Set} {m : ℕ} → Asked P all words c m → Asked P all others c m
     asked-kept asked = record {
       at = record { standing = standing-kept (c .slots) fits (asked .at .standing); within = asked .at .within };
-      more = asked .more; useful = rw (slots-kept (c .slots) fits) (asked .useful); positive = asked .positive; space = rw as-many (asked .space) }
+      more = asked .more;
+      useful = rw (slots-kept (c .slots) fits) (asked .useful);
+      positive = asked .positive;
+      space = rw as-many (asked .space);
+    }
 
     pub to-do-kept : toDo others c ≡ toDo words c
     to-do-kept = rw (slots-kept (c .slots) fits)

@@ -3,7 +3,7 @@ use mathlib.Core.Path.{_≡_, refl, sym, ap, _∙_}
 use mathlib.Core.Logic.{_⊎_, inl, inr, ⊎-elim, by-cases}
 use mathlib.Core.Bool.{Bool, true, false, cond, true≢false}
 use mathlib.Core.List.{List}
-use Prim.Native.Nat.{ℕ, suc, _+_, _-_, _<_, _≤_, min, max}
+use Prim.Native.Nat.{ℕ, suc, _-_, _<_, _≤_, min, max}
 use native.Mathlib.Nat.{eq-or-lt-of-le, le-of-suc-le-suc, not-suc-le-zero, lt-irrefl}
 use native.Mathlib.Decide.{decLt, ℕ-discrete}
 use native.Mathlib.Omega.{arith}
@@ -16,7 +16,7 @@ use Rattle.sets.specs.Set.{member, code}
 use Rattle.table.specs.declared.entry.Entry.{Entry}
 use Rattle.wide.specs.Wide.{wideAt}
 use Rattle.tableau.specs.Wants.{Answers}
-use Rattle.tableau.specs.Counting.{bound, lo, hi, served, spent}
+use Rattle.tableau.specs.Counting.{lo, hi, served, spent}
 use Rattle.tableau.specs.Search.{Slot, rowsOf, Problem, asking, Asks, Lacks, Full, Met, Kept, Useful}
 use Rattle.tableau.proofs.Tests.{both-parts, both-made}
 use Rattle.tableau.proofs.Bounds.{bound-speaks}
@@ -51,10 +51,14 @@ hi-few e h = few-of (eqb (e .kind) 6) (omega arith) (omega arith)
 -- what holds of two numbers holds of the greater, and of the smaller
 module _ (Q : ℕ → Type 0) (a b : ℕ) (at-a : Q a) (at-b : Q b) where
   of-max : Q (max a b)
-  of-max = by-cases (decLt a b) (λ (l : a < b). let e : max a b ≡ b = omega arith in rw e at-b) (λ (g : ¬ (a < b)). let e : max a b ≡ a = omega arith in rw e at-a)
+  of-max =
+      by-cases (decLt a b) (λ (l : a < b). let e : max a b ≡ b = omega arith in rw e at-b)
+      (λ (g : ¬ (a < b)). let e : max a b ≡ a = omega arith in rw e at-a)
 
   of-min : Q (min a b)
-  of-min = by-cases (decLt a b) (λ (l : a < b). let e : min a b ≡ a = omega arith in rw e at-a) (λ (g : ¬ (a < b)). let e : min a b ≡ b = omega arith in rw e at-b)
+  of-min =
+      by-cases (decLt a b) (λ (l : a < b). let e : min a b ≡ a = omega arith in rw e at-a)
+      (λ (g : ¬ (a < b)). let e : min a b ≡ b = omega arith in rw e at-b)
 
 module _ (P : Problem) (slots : List Slot) (b : ℕ) where
   lacking-none : {among : ℕ → Type 0} → ((i : ℕ) → among i → Asks P true i → bitAt b i ≡ true → ⊥) → Lacking P slots b among 0
@@ -68,20 +72,22 @@ module _ (P : Problem) (slots : List Slot) (b : ℕ) where
   lacking-not i none = lacking-none (λ j at. rw at none)
 
   pub lacking-here : (i : ℕ) → Asks P true i → bitAt b i ≡ true → lo (P .entry i) ≤ 4096
-    → Lacking P slots b (λ j. j ≡ i) (lo (P .entry i) - served i (rowsOf slots))
+      → Lacking P slots b (λ j. j ≡ i) (lo (P .entry i) - served i (rowsOf slots))
   lacking-here i a p few = record {
     met = λ j at a p. rw at (omega arith);
     serves = λ pos. record { need = i; asks = a; promised = p; unmet = omega arith };
-    small = omega arith }
+    small = omega arith;
+  }
 
   pub lacking-next : {i r x : ℕ} → Lacking P slots b (λ j. j < i) r → Lacking P slots b (λ j. j ≡ i) x → Lacking P slots b (λ j. j < suc i) (max r x)
   lacking-next {i} {r} {x} before here = record {
     met = λ j l a p. ⊎-elim
-      (λ (at : j ≡ i). omega (arith, here .met j at a p))
-      (λ (less : j < i). omega (arith, before .met j less a p))
-      (eq-or-lt-of-le (le-of-suc-le-suc l));
+        (λ (at : j ≡ i). omega (arith, here .met j at a p))
+        (λ (less : j < i). omega (arith, before .met j less a p))
+        (eq-or-lt-of-le (le-of-suc-le-suc l));
     serves = of-max (λ (k : ℕ). 0 < k → Lacks P slots b) r x (before .serves) (here .serves);
-    small = omega (arith, before .small, here .small) }
+    small = omega (arith, before .small, here .small);
+  }
 
   leaving-none : {among : ℕ → Type 0} → ((i : ℕ) → among i → Asks P false i → bitAt b i ≡ false → ⊥) → Leaving P slots b among 4096
   leaving-none none = record { room = λ i at a p. absurd (none i at a p); full = inr refl; small = omega arith }
@@ -94,20 +100,22 @@ module _ (P : Problem) (slots : List Slot) (b : ℕ) where
   leaving-not i none = leaving-none (λ j at. rw at none)
 
   pub leaving-here : (i : ℕ) → Asks P false i → bitAt b i ≡ false → hi (P .entry i) ≤ 4096 → Kept P slots
-    → Leaving P slots b (λ j. j ≡ i) (hi (P .entry i) - spent i (rowsOf slots))
+      → Leaving P slots b (λ j. j ≡ i) (hi (P .entry i) - spent i (rowsOf slots))
   leaving-here i a p few kept = record {
     room = λ j at a p. rw at (omega (arith, kept .kept i (rw at at a)));
     full = inl (record { limit = i; asks = a; broken = p; full = omega (arith, kept .kept i a) });
-    small = omega arith }
+    small = omega arith;
+  }
 
   pub leaving-next : {i r x : ℕ} → Leaving P slots b (λ j. j < i) r → Leaving P slots b (λ j. j ≡ i) x → Leaving P slots b (λ j. j < suc i) (min r x)
   leaving-next {i} {r} {x} before here = record {
     room = λ j l a p. ⊎-elim
-      (λ (at : j ≡ i). omega (arith, here .room j at a p))
-      (λ (less : j < i). omega (arith, before .room j less a p))
-      (eq-or-lt-of-le (le-of-suc-le-suc l));
+        (λ (at : j ≡ i). omega (arith, here .room j at a p))
+        (λ (less : j < i). omega (arith, before .room j less a p))
+        (eq-or-lt-of-le (le-of-suc-le-suc l));
     full = of-min (λ (k : ℕ). Full P slots b k ⊎ (k ≡ 4096)) r x (before .full) (here .full);
-    small = omega (arith, before .small) }
+    small = omega (arith, before .small);
+  }
 
   -- ---- all entries together
 
@@ -116,26 +124,32 @@ module _ (P : Problem) (slots : List Slot) (b : ℕ) where
   useful-made {l} {r} lack leave = record {
     room = λ i a p. omega (arith, leave .room i (a .inside) a p);
     enough = by-cases (decLt r l)
-      (λ (less : r < l).
-      let e : min l r ≡ r = omega arith in
-      ⊎-elim (λ (f : Full P slots b r). inl (rw e f)) (λ (most : r ≡ 4096). absurd (lt-irrefl r (omega (arith, lack .small)))) (leave .full))
-      (λ (g : ¬ (r < l)). inr (λ i a p. omega (arith, lack .met i (a .inside) a p)));
+        (λ (less : r < l).
+        let e : min l r ≡ r = omega arith in
+        ⊎-elim (λ (f : Full P slots b r). inl (rw e f)) (λ (most : r ≡ 4096). absurd (lt-irrefl r (omega (arith, lack .small)))) (leave .full))
+        (λ (g : ¬ (r < l)). inr (λ i a p. omega (arith, lack .met i (a .inside) a p)));
     serves = λ pos. lack .serves (omega arith);
-    small = omega (arith, lack .small) }
+    small = omega (arith, lack .small);
+  }
 
   pub useful-none : Lacking P slots b (λ j. j < P .n) 0 → Kept P slots → Useful P slots b 0
   useful-none lack kept = record {
     room = λ i a p. omega (arith, kept .kept i a);
     enough = inr (λ i a p. lack .met i (a .inside) a p);
     serves = lack .serves;
-    small = omega arith }
+    small = omega arith;
+  }
 
 -- every need is met exactly where nothing is lacking
 pub met-answer : (P : Problem) (slots : List Slot) (all : Set) (r : ℕ) → member all ≡ asking P → Lacking P slots (code all) (λ j. j < P .n) r
-  → Answers (eqb r 0) (Met P slots)
+    → Answers (eqb r 0) (Met P slots)
 unfolding member
 met-answer P slots all r e lack =
     by-cases (ℕ-discrete r 0)
-    (λ (none : r ≡ 0). rw (eq-eqb r 0 none) (record { met = λ i a.
-      omega (arith, lack .met i (a .inside) a (ap (λ (p : ℕ → Bool). p i) e ∙ bound-speaks (P .yes) (P .no) (P .entry i) i true (a .bounds) (a .here))) }))
-    (λ (some : ¬ (r ≡ 0)). rw (ne-eqb r 0 some) (λ met. let l = lack .serves (omega arith) in lt-irrefl 0 (omega (arith, l .unmet, met .met (l .need) (l .asks)))))
+    (λ (none : r ≡ 0). rw (eq-eqb r 0 none) (record {
+      met = λ i a.
+          let promised = ap (λ (p : ℕ → Bool). p i) e ∙ bound-speaks (P .yes) (P .no) (P .entry i) i true (a .bounds) (a .here) in
+          omega (arith, lack .met i (a .inside) a promised);
+    }))
+    (λ (some : ¬ (r ≡ 0)). rw (ne-eqb r 0 some) (λ met.
+    let l = lack .serves (omega arith) in lt-irrefl 0 (omega (arith, l .unmet, met .met (l .need) (l .asks)))))

@@ -31,13 +31,15 @@ slots-same words others (suc k) h =
 pub put-made : (words : List ℕ) (k b m : ℕ) → 2 * k + 2 ≤ length words → Put words k b m (set (set words (2 * k) b) (2 * k + 1) m)
 put-made words k b m room =
     let once = set words (2 * k) b in
-    let at : (i v : ℕ) → i < 2 * k → _ = λ i v l. getD-set-other once (2 * k + 1) i m 0 (omega arith) ∙ getD-set-other words (2 * k) i b 0 (omega arith) in
+    let earlier : (i : ℕ) → i < 2 * k → _ =
+    λ i l. getD-set-other once (2 * k + 1) i m 0 (omega arith) ∙ getD-set-other words (2 * k) i b 0 (omega arith) in
     record {
       same-length = simp length-set;
       here = ap₂ taken
-        (getD-set-other once (2 * k + 1) (2 * k) m 0 (omega arith) ∙ getD-set-same words (2 * k) b 0 (omega arith))
-        (getD-set-same once (2 * k + 1) m 0 (simp length-set (omega arith)));
-      below = λ j l. ap₂ taken (at (2 * j) 0 (omega arith)) (at (2 * j + 1) 0 (omega arith)) }
+          (getD-set-other once (2 * k + 1) (2 * k) m 0 (omega arith) ∙ getD-set-same words (2 * k) b 0 (omega arith))
+          (getD-set-same once (2 * k + 1) m 0 (simp length-set (omega arith)));
+      below = λ j l. ap₂ taken (earlier (2 * j) (omega arith)) (earlier (2 * j + 1) (omega arith));
+    }
 
 module _ {words after : List ℕ} {k b m : ℕ} (put : Put words k b m after) where
   pub put-slots : slotsOf after (suc k) ≡ taken b m ∷ slotsOf words k

@@ -7,7 +7,7 @@ use lib.ListN.{length}
 use Rattle.table.specs.Space.{gradeSum}
 use Rattle.sets.specs.declared.Set.{Set}
 use Rattle.sets.specs.Set.{member, code, Within}
-use Rattle.tableau.specs.Search.{Problem, asking, Searching, Solvable, Useful, Met, Fit, potential}
+use Rattle.tableau.specs.Search.{Problem, asking, Searching, Solvable, Useful, potential}
 use Rattle.counting.specs.declared.Cursor.{Cursor}
 use Rattle.counting.specs.declared.Step.{Step}
 use Rattle.counting.specs.declared.Turn.{Turn}
@@ -68,4 +68,3 @@ pub record Behind (all tried : Set) (slots : ℕ) (c : Cursor) : Type 0 where
   pub same-slots : c .slots ≡ slots
   pub lower : untried c ≤ code tried
   pub at : (P : Problem) (words : List ℕ) → Standing P all words slots (code tried) → At P all words c
-

@@ -8,7 +8,6 @@ ghost use Rattle.tableau.specs.Search.{asking, Met, Kept, Useful};
 ghost use Rattle.counting.specs.Question.{problemOf};
 ghost use Rattle.counting.specs.Stack.{slotsOf, Few};
 ghost use Rattle.counting.specs.Bounds.{Lacking, Leaving};
-
 use crate::question;
 use crate::question::Question;
 use crate::stack;

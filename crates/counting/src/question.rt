@@ -1,15 +1,11 @@
 // What is asked of the successors by one relation: which entries are needs, which are limits, and what they ask for.
 ghost use mathlib.Core.Path.{_≡_};
-ghost use mathlib.Core.Bool.{_&&_};
 ghost use Prim.Native.Nat.{_-_, _<_};
-ghost use lib.Dec.{eqb};
-ghost use lib.ListN.{length};
 ghost use Rattle.sets.specs.Set.{member};
 ghost use Rattle.tableau.specs.Wants.{wanted, addedIf};
 ghost use Rattle.tableau.specs.Counting.{bound, speaks, lo, hi};
 ghost use Rattle.tableau.specs.Search.{asking};
 ghost use Rattle.counting.specs.Question.{problemOf, asks, Small};
-
 use sets::Set;
 use table::entry::Entry;
 use wide::wide_at;
@@ -46,7 +42,11 @@ pub fn asks(e: Entry, q: Question, i: usize, need: bool) -> bool
 {
     let name = e.name;
     let relation = q.relation;
-    if name == relation { is_bound(e, q, i, need) } else { false }
+    if name == relation {
+        is_bound(e, q, i, need)
+    } else {
+        false
+    }
 }
 
 // A difference, 0 where it would be negative.

@@ -8,7 +8,6 @@ ghost use Rattle.sets.specs.Word.{bitAt};
 ghost use Rattle.tableau.specs.Counting.{total};
 ghost use Rattle.tableau.specs.Search.{rowsOf};
 ghost use Rattle.counting.specs.Stack.{slotsOf, slotAt, counts, Few, Put};
-
 use packed::word_at;
 use sets::Set;
 
@@ -25,7 +24,11 @@ fn share(words: &[u64], j: usize, i: usize, promised: bool) -> u64
     ensures { λ r. ⌜ r ≡ gain (counts promised (bitAt (slotAt (now (words .entry)) j .code) i)) (slotAt (now (words .entry)) j .copies) ⌝ }
 {
     let promises = Set::of_code(word_at(words, 2 * j)).contains(i);
-    if counts(promises, promised) { word_at(words, 2 * j + 1) } else { 0 }
+    if counts(promises, promised) {
+        word_at(words, 2 * j + 1)
+    } else {
+        0
+    }
 }
 
 // How many successors are in the first k slots, of those that promise entry i, or of those that do not.

@@ -1,31 +1,29 @@
 -- The promises of a successor, one after the other. Why what they come to says neither more nor less: each part is wanted as its promise
 -- asks, and whatever else comes in follows from that.
 use mathlib.Core.Path.{_≡_, refl, sym, ap, _∙_}
-use mathlib.Core.Logic.{_⊎_, ⊎-elim, by-cases}
-use mathlib.Core.Bool.{Bool, true, false, not, _&&_, _||_, false≢true, true≢false}
+use mathlib.Core.Logic.{⊎-elim, by-cases}
+use mathlib.Core.Bool.{Bool, true, false, not, _&&_, false≢true}
 use Prim.Native.Nat.{ℕ, suc, _<_, _≤_}
 use native.Mathlib.Nat.{le-trans}
 use native.Mathlib.Decide.{ℕ-discrete}
 use native.Mathlib.Omega.{arith}
 use lib.Dec.{eqb}
-use borrow.Author.Tests.{eqb-true, ne-eqb}
-use Rattle.semantics.specs.Structure.{Structure}
+use borrow.Author.Tests.{ne-eqb}
 use Rattle.sets.specs.Set.{member, nothing, removed, Within}
 use Rattle.table.specs.declared.entry.Entry.{Entry}
 use Rattle.table.specs.Check.{usesOf}
 use Rattle.table.specs.Formulas.{depthAt, depthOf}
 use Rattle.table.proofs.Accepted.{depth-rule}
-use Rattle.tableau.specs.Wants.{truthAt, wanted, Settled}
-use Rattle.tableau.specs.Counting.{boundKind, bound, Feasible}
-use Rattle.tableau.specs.Search.{Problem, asking}
+use Rattle.tableau.specs.Wants.{wanted, Settled}
+use Rattle.tableau.specs.Counting.{boundKind, bound}
+use Rattle.tableau.specs.Search.{Problem}
 use Rattle.tableau.proofs.Tests.{both-parts, both-made, one-of}
 use Rattle.tableau.proofs.Bounds.{bound-cases}
 use Rattle.tableau.proofs.Promises.{sat-feasible}
 use Rattle.wants.specs.declared.Wants.{Wants}
 use Rattle.wants.specs.declared.Outcome.{Outcome}
-use Rattle.wants.specs.Outcome.{wantedW, MeetsW, SettledW, Asked, Taken, OutcomeIs}
-use Rattle.satisfy.specs.World.{SatW, Ready}
-use Rattle.satisfy.specs.Promise.{Held, AllIs, onlyIf, Keeps, Promising, Partly, Promised, PromisedIs}
+use Rattle.wants.specs.Outcome.{SettledW, Asked, OutcomeIs}
+use Rattle.satisfy.specs.Promise.{Held, AllIs, onlyIf, Promising, Partly, Promised, PromisedIs}
 
 only-so : (b c : Bool) → onlyIf true b c ≡ true → c ≡ b
 only-so true true h = refl

@@ -10,20 +10,19 @@ use native.Mathlib.Omega.{arith}
 use lib.Dec.{eqb}
 use borrow.Author.Tests.{eqb-false, not-true}
 use Rattle.semantics.specs.Structure.{Structure}
-use Rattle.sets.specs.Set.{member, removed}
+use Rattle.sets.specs.Set.{member}
 use Rattle.sets.specs.Word.{Greatest}
 use Rattle.table.specs.declared.entry.Entry.{Entry}
 use Rattle.table.specs.Check.{usesOf}
 use Rattle.table.specs.Formulas.{depthAt, depthOf}
-use Rattle.table.proofs.Accepted.{WellFormed, depth-rule}
-use Rattle.tableau.specs.Wants.{truthAt, wanted, Meets, Sat}
+use Rattle.table.proofs.Accepted.{depth-rule}
 use Rattle.tableau.proofs.Tests.{both-parts}
 use Rattle.tableau.proofs.Rules.{either-rule}
 use Rattle.tableau.proofs.Growth.{meets-fewer, split-settled}
 use Rattle.wants.specs.declared.Wants.{Wants}
 use Rattle.wants.specs.declared.Outcome.{Outcome}
 use Rattle.wants.specs.Outcome.{wantedW, GrowsW, MeetsW, SettledW, Refuted, Asked, Taken, OutcomeIs}
-use Rattle.satisfy.specs.World.{SatW, serving, CaseOf, Ready, Branch, BranchIs, Lightened}
+use Rattle.satisfy.specs.World.{serving, CaseOf, Ready, Branch, BranchIs, Lightened}
 
 -- the kind of a pending entry says how its parts serve
 serving-is : (b : Bool) (k : ℕ) → k ≡ cond b 5 4 → eqb k 5 ≡ b

@@ -1,26 +1,22 @@
 -- From worlds to relations and back: two cases that both fail leave no world; relations that all have solutions give one.
 use mathlib.Core.Path.{_≡_, refl, sym, ap, _∙_}
 use mathlib.Core.Logic.{⊎-elim}
-use mathlib.Core.Bool.{Bool, true, false, not, _&&_, _||_, false≢true}
-use Prim.Native.Nat.{ℕ, suc, _+_, _-_, _*_, _<_, _≤_}
+use mathlib.Core.Bool.{Bool, true, false, false≢true}
+use Prim.Native.Nat.{ℕ, suc, _-_, _<_, _≤_}
 use native.Mathlib.Nat.{suc-mul, not-suc-le-zero}
 use native.Mathlib.Omega.{arith}
 use lib.Dec.{eqb}
-use borrow.Author.Tests.{eqb-true, eq-eqb}
-use Rattle.semantics.specs.Structure.{Structure}
-use Rattle.sets.specs.Set.{member, nothing, butNot, Within}
+use borrow.Author.Tests.{eqb-true}
+use Rattle.sets.specs.Set.{member, nothing, butNot}
 use Rattle.sets.specs.Word.{Greatest}
 use Rattle.table.specs.declared.entry.Entry.{Entry}
-use Rattle.table.specs.Formulas.{depthAt, depthOf}
-use Rattle.table.proofs.Accepted.{depth-rule}
-use Rattle.tableau.specs.Wants.{Answers, wanted}
+use Rattle.tableau.specs.Wants.{Answers}
 use Rattle.tableau.specs.Counting.{speaks, Solution}
 use Rattle.tableau.proofs.Tests.{both-parts}
 use Rattle.tableau.proofs.Solved.{solved}
 use Rattle.tableau.proofs.Built.{built}
 use Rattle.wants.specs.declared.Wants.{Wants}
-use Rattle.wants.specs.Outcome.{MeetsW}
-use Rattle.satisfy.specs.World.{SatW, CaseOf, Ready, Branch}
+use Rattle.satisfy.specs.World.{SatW, Ready, Branch}
 use Rattle.satisfy.specs.Relation.{counting}
 use Rattle.satisfy.specs.Asking.{Roomy, CaseAnswers, Solving}
 use Rattle.satisfy.proofs.Splitting.{cases}

@@ -3,7 +3,7 @@ use mathlib.Core.Path.{_≡_}
 use mathlib.Core.Bool.{Bool, true, false}
 use mathlib.Core.List.{List}
 use Prim.Native.Nat.{ℕ, suc, _+_, _-_, _*_, _<_, _≤_}
-use lib.ListN.{length, take}
+use lib.ListN.{take}
 use Rattle.semantics.specs.Structure.{Structure}
 use Rattle.sets.specs.declared.Set.{Set}
 use Rattle.sets.specs.Set.{member, code, Within}

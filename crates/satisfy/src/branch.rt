@@ -1,9 +1,6 @@
 // The split of a pending entry into two cases.
-ghost use mathlib.Core.Path.{_≡_};
-ghost use mathlib.Core.Bool.{true, false};
-ghost use Prim.Native.Nat.{ℕ, _<_, _≤_};
 ghost use lib.ListN.{length};
-ghost use Rattle.sets.specs.Set.{member, removed};
+ghost use Rattle.sets.specs.Set.{member};
 ghost use Rattle.sets.specs.Word.{Greatest};
 ghost use Rattle.wide.specs.Wide.{wideAt};
 ghost use Rattle.wants.specs.Outcome.{Asked, OutcomeIs};

@@ -8,11 +8,11 @@ use lib.Dec.{eqb}
 use borrow.Author.Tests.{eqb-true, eq-eqb}
 use Rattle.semantics.specs.Structure.{Structure}
 use Rattle.table.specs.declared.entry.Entry.{Entry}
-use Rattle.tableau.specs.Wants.{truthAt, wanted, Answers}
+use Rattle.tableau.specs.Wants.{truthAt, Answers}
 use Rattle.tableau.proofs.Tests.{both-parts}
 use Rattle.tableau.proofs.Rules.{constant-rule, zero-rule, fact-rule}
 use Rattle.wants.specs.declared.Wants.{Wants}
-use Rattle.wants.specs.Outcome.{wantedW, MeetsW, Refuted, Asked}
+use Rattle.wants.specs.Outcome.{wantedW, Refuted, Asked}
 use Rattle.wants.specs.Step.{HasFact, Free, ClashIs}
 
 not-both : (b : Bool) → b ≡ not b → ⊥

@@ -1,8 +1,8 @@
 -- From parts to the entry itself: what is wanted grows part by part, each of which follows from the entry, and then by the entry.
 -- Why: a part that follows from the entry takes away no world that has the entry as wanted; and once the parts are there, its rule is met.
-use mathlib.Core.Path.{_≡_, refl, sym, ap, _∙_}
+use mathlib.Core.Path.{_≡_, refl, ap}
 use mathlib.Core.Logic.{_⊎_, inl, inr, ⊎-elim}
-use mathlib.Core.Bool.{Bool, true, false, cond, not, _||_, false≢true}
+use mathlib.Core.Bool.{Bool, true, false, cond, not, false≢true}
 use Prim.Native.Nat.{ℕ, _<_, _≤_}
 use native.Mathlib.Nat.{le-trans, le-of-eq}
 use native.Mathlib.Omega.{arith}
@@ -13,7 +13,7 @@ use Rattle.sets.specs.Set.{member}
 use Rattle.table.specs.declared.entry.Entry.{Entry}
 use Rattle.table.specs.Check.{usesOf}
 use Rattle.table.specs.Formulas.{depthAt, depthOf}
-use Rattle.table.proofs.Accepted.{WellFormed, depth-rule}
+use Rattle.table.proofs.Accepted.{depth-rule}
 use Rattle.table.proofs.Cases.{by-kind}
 use Rattle.tableau.specs.Wants.{addedIf, truthAt, wanted, rule, NoSameFact}
 use Rattle.tableau.proofs.Tests.{one-of}

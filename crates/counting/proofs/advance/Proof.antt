@@ -1,4 +1,4 @@
--- `advance` meets its contract.
+-- `advance` meets its contract: it stops where all needs are met, or where no slot is left to give up a copy.
 use mathlib.Core.Path.{_≡_}
 use Prim.Native.Nat.{suc, _-_}
 use native.Mathlib.Omega.{arith}
@@ -21,7 +21,8 @@ returns-3 c =
     (rw (c .before .before .if1 .left) at (c .before .before .before .met .ensures)) (c .if3 .taken)
 
 -- one slot at least is left
-some : (c : tie.Else3) → c .before .before .before .before .before .before .before .args .at .slots ≡ suc (c .before .before .before .before .before .before .before .args .at .slots - 1)
+some : (c : tie.Else3)
+    → c .before .before .before .before .before .before .before .args .at .slots ≡ suc (c .before .before .before .before .before .before .before .args .at .slots - 1)
 some c = omega arith
 
 give-up-requires : tie.Need-give-up-requires
@@ -31,7 +32,8 @@ give-up-requires c κs =
 
 returns-4 : tie.Need-returns-4
 returns-4 c =
-    nearer-idle (c .before .before .before .before .before .before .before .before .before .before .before .pre) (c .before .before .before .before .before .if2 .left)
+    nearer-idle (c .before .before .before .before .before .before .before .before .before .before .before .pre)
+    (c .before .before .before .before .before .if2 .left)
     (rw (c .before .before .before .before .before .before .if1 .left) at (c .before .before .before .before .before .before .before .met .ensures))
     (some (c .before .before .before .before)) (c .before .before .give-up .ensures _)
 

@@ -16,9 +16,10 @@ useful-requires c κs =
 returns : tie.Need-returns
 returns c =
     let pre = c .before .before .before .before .before .pre in
-    let useful = c .before .useful .ensures in
-    (record { at = pre .0; more = pre .1; useful = useful; positive = c .if1 .taken; space = standing-space (pre .0 .standing) (c .if1 .taken) useful }
-    , le-refl _)
+    let useful = c .before .useful .ensures in (
+      record { at = pre .0; more = pre .1; useful = useful; positive = c .if1 .taken; space = standing-space (pre .0 .standing) (c .if1 .taken) useful },
+      le-refl _,
+    )
 
 returns-2 : tie.Need-returns-2
 returns-2 c =

@@ -1,4 +1,4 @@
--- `behind` meets its contract.
+-- `behind` meets its contract: the set that comes next below, or none.
 use borrow.Author.Needs.{needs}
 use Rattle.counting.proofs.Standing.{behind-next, behind-last}
 use Rattle.counting.proofs.behind.Statement.{statement}

@@ -8,7 +8,8 @@ use Rattle.counting.proofs.Standing.{nearer-popped, nearer-lowered}
 use Rattle.counting.proofs.give_up.Statement.{statement}
 use Rattle.counting.proofs.give_up.Tie as tie
 
-tried : (c : tie.After-of-code) → code (c .of-code .result) ≡ slotAt (c .before .before .before .before .args .words .now) (c .before .before .before .before .args .newest) .code
+tried : (c : tie.After-of-code)
+    → code (c .of-code .result) ≡ slotAt (c .before .before .before .before .args .words .now) (c .before .before .before .before .args .newest) .code
 tried c = c .of-code .ensures ∙ c .before .word-at .ensures
 
 behind-requires : tie.Need-behind-requires
@@ -22,13 +23,15 @@ returns c P s un =
 behind-requires-2 : tie.Need-behind-requires-2
 unfolding member
 behind-requires-2 c κs =
-    rw (tried (c .before .before .before .before .before .before .before)) (c .before .before .before .before .before .before .before .before .before .before .before .pre .1)
+    rw (tried (c .before .before .before .before .before .before .before))
+    (c .before .before .before .before .before .before .before .before .before .before .before .pre .1)
 
 returns-2 : tie.Need-returns-2
 returns-2 c P s un =
     let copies = c .before .before .before .before .before .before .word-at2 .ensures in
-    nearer-lowered s un (tried (c .before .before .before .before .before .before .before .before)) (rw copies at (c .before .before .before .before .before .if1 .left))
-    (rw copies at (c .before .before .before .put-slot .ensures)) (rw add-one at (c .behind2 .ensures))
+    nearer-lowered s un (tried (c .before .before .before .before .before .before .before .before))
+    (rw copies at (c .before .before .before .before .before .if1 .left)) (rw copies at (c .before .before .before .put-slot .ensures))
+    (rw add-one at (c .behind2 .ensures))
 
 pub give-up-spec : {M : Type 1} → statement M
 give-up-spec =

@@ -12,7 +12,8 @@ use Rattle.counting.proofs.search.Statement.{statement}
 use Rattle.counting.proofs.search.Tie as tie
 
 abbrev Inv-loop : tie.InvT-loop
-Inv-loop entries q all words₀ at₀ words at = At (problemOf entries q) all words at × (toDo words at ≤ toDo words₀ at₀) × (length words ≡ length words₀)
+Inv-loop entries q all words₀ at₀ words at =
+    At (problemOf entries q) all words at × (toDo words at ≤ toDo words₀ at₀) × (length words ≡ length words₀)
 
 abbrev μ-loop : tie.MeasureT-loop
 μ-loop entries q all words₀ at₀ words at = toDo words at
@@ -33,9 +34,11 @@ loop-less c = (rw (c .before .next .given .1) at (c .before .before .before .bef
 
 loop-again : tie.Need-loop-again Inv-loop μ-loop
 loop-again c =
-    let nearer = rw (c .before .next .given .1) at (c .before .before .before .before .before .advance .ensures) in
-    (nearer .at, omega (arith, nearer .less, c .before .before .before .before .before .before .before .loop .inv .1),
-    c .before .before .before .before .before .advance .kept .1 .1 .1 .0 ∙ c .before .before .before .before .before .before .before .loop .inv .2)
+    let nearer = rw (c .before .next .given .1) at (c .before .before .before .before .before .advance .ensures) in (
+      nearer .at,
+      omega (arith, nearer .less, c .before .before .before .before .before .before .before .loop .inv .1),
+      c .before .before .before .before .before .advance .kept .1 .1 .1 .0 ∙ c .before .before .before .before .before .before .before .loop .inv .2,
+    )
 
 pub search-spec : {M : Type 1} → statement M
 search-spec =

@@ -1,4 +1,4 @@
--- `skip` meets its contract.
+-- `skip` meets its contract: no solution has a set that is not fit.
 use borrow.Author.Needs.{needs}
 use Rattle.counting.proofs.Standing.{nearer-unfit}
 use Rattle.counting.proofs.skip.Statement.{statement}

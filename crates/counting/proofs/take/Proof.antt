@@ -1,4 +1,4 @@
--- `take` meets its contract.
+-- `take` meets its contract: the slot is written, and the search goes on below its set.
 use native.Mathlib.Numerals.{add-one}
 use borrow.Author.Needs.{needs}
 use Rattle.counting.proofs.Standing.{nearer-taken}

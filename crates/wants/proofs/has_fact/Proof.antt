@@ -1,7 +1,7 @@
 -- `has_fact` meets its contract. The invariant: what is left of the set has all its entries that are the fact.
 -- Each turn takes one member out.
-use mathlib.Core.Path.{_≡_, sym, ap, _∙_}
-use mathlib.Core.Bool.{true, false, Bool, false≢true}
+use mathlib.Core.Path.{sym, ap, _∙_}
+use mathlib.Core.Bool.{Bool, false≢true}
 use Prim.Native.Nat.{ℕ}
 use lib.ListN.{length}
 use borrow.Author.Needs.{needs}

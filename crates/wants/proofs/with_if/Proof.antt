@@ -1,5 +1,4 @@
 -- `with_if` meets its contract: the test says which case of the definition it is.
-use mathlib.Core.Path.{refl}
 use borrow.Author.Needs.{needs}
 use Rattle.wants.proofs.with_if.Statement.{statement}
 use Rattle.wants.proofs.with_if.Tie as tie

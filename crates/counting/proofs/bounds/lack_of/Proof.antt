@@ -7,7 +7,6 @@ use borrow.Author.Tests.{not-true, not-false}
 use Rattle.sets.specs.Word.{bitAt}
 use Rattle.sets.specs.Set.{member}
 use Rattle.wide.specs.Wide.{wideAt}
-use Rattle.counting.specs.Question.{asks}
 use Rattle.counting.proofs.Measures.{asks-yes, asks-no, lo-few, lacking-not, lacking-here}
 use Rattle.counting.proofs.bounds.lack_of.Statement.{statement}
 use Rattle.counting.proofs.bounds.lack_of.Tie as tie
@@ -30,13 +29,13 @@ unfolding member
 returns-3 c =
     let start = c .before .before .before .before .before .before .before .before .before .before in
     let a = start .args in
-    let e = wideAt (a .entries .now) (a .i) in
+    let within = c .before .before .before .before .before .before in
     let read = c .before .before .before .before .before .wide-at .ensures in
     let test = rw read at (c .before .before .before .before .asks .ensures) in
-    let in-set : bitAt (a .b .bits) (a .i) ≡ true =
-        sym (c .before .before .before .before .before .before .before .contains .ensures) ∙ not-false _ (c .before .before .before .before .before .before .if1 .left) in
+    let in-set : bitAt (a .b .bits) (a .i) ≡ true = sym (within .before .contains .ensures) ∙ not-false _ (within .if1 .left) in
+    let asks = asks-yes (a .entries .now) (a .q) (a .i) true (start .pre .0) (sym test ∙ not-false _ (c .before .before .before .if2 .left)) in
     rw (c .less .ensures, c .before .before .least .ensures, c .before .tally .ensures, read)
-    (lacking-here _ _ _ (a .i) (asks-yes (a .entries .now) (a .q) (a .i) true (start .pre .0) (sym test ∙ not-false _ (c .before .before .before .if2 .left))) in-set (lo-few e (omega arith)))
+    (lacking-here _ _ _ (a .i) asks in-set (lo-few (wideAt (a .entries .now) (a .i)) (omega arith)))
 
 pub lack-of-spec : {M : Type 1} → statement M
 lack-of-spec =

@@ -7,7 +7,6 @@ use borrow.Author.Tests.{not-true, not-false}
 use Rattle.sets.specs.Word.{bitAt}
 use Rattle.sets.specs.Set.{member}
 use Rattle.wide.specs.Wide.{wideAt}
-use Rattle.counting.specs.Question.{asks}
 use Rattle.counting.proofs.Measures.{asks-yes, asks-no, hi-few, leaving-not, leaving-here}
 use Rattle.counting.proofs.bounds.room_of.Statement.{statement}
 use Rattle.counting.proofs.bounds.room_of.Tie as tie
@@ -30,13 +29,13 @@ unfolding member
 returns-3 c =
     let start = c .before .before .before .before .before .before .before .before .before .before in
     let a = start .args in
-    let e = wideAt (a .entries .now) (a .i) in
+    let outside = c .before .before .before .before .before .before in
     let read = c .before .before .before .before .before .wide-at .ensures in
     let test = rw read at (c .before .before .before .before .asks .ensures) in
-    let out : bitAt (a .b .bits) (a .i) ≡ false =
-        sym (c .before .before .before .before .before .before .before .contains .ensures) ∙ c .before .before .before .before .before .before .if1 .left in
+    let out : bitAt (a .b .bits) (a .i) ≡ false = sym (outside .before .contains .ensures) ∙ outside .if1 .left in
+    let asks = asks-yes (a .entries .now) (a .q) (a .i) false (start .pre .0) (sym test ∙ not-false _ (c .before .before .before .if2 .left)) in
     rw (c .less .ensures, c .before .before .most .ensures, c .before .tally .ensures, read)
-    (leaving-here _ _ _ (a .i) (asks-yes (a .entries .now) (a .q) (a .i) false (start .pre .0) (sym test ∙ not-false _ (c .before .before .before .if2 .left))) out (hi-few e (omega arith)) (start .pre .2))
+    (leaving-here _ _ _ (a .i) asks out (hi-few (wideAt (a .entries .now) (a .i)) (omega arith)) (start .pre .2))
 
 pub room-of-spec : {M : Type 1} → statement M
 room-of-spec =

@@ -1,4 +1,4 @@
--- `useful` meets its contract.
+-- `useful` meets its contract: what is lacking, cut to the room.
 use borrow.Author.Needs.{needs}
 use Rattle.counting.proofs.Measures.{useful-made, useful-none}
 use Rattle.counting.proofs.bounds.useful.Statement.{statement}

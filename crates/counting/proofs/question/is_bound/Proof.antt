@@ -1,5 +1,5 @@
 -- `is_bound` meets its contract, kind by kind.
-use mathlib.Core.Path.{_≡_, sym, _∙_}
+use mathlib.Core.Path.{sym, _∙_}
 use borrow.Author.Needs.{needs}
 use Rattle.sets.specs.Set.{member}
 use Rattle.counting.proofs.Asking.{bound-least, bound-most, bound-none}

@@ -1,4 +1,4 @@
--- `wanted` meets its contract.
+-- `wanted` meets its contract: the test says which set it is.
 use Rattle.counting.proofs.question.wanted.Statement.{statement}
 use Rattle.counting.proofs.question.wanted.Tie as tie
 

@@ -1,17 +1,17 @@
 -- `with_asking` meets its contract: an entry that is a need or a limit is put in, another is not.
-use mathlib.Core.Path.{_≡_, sym, ap, _∙_}
-use mathlib.Core.Bool.{Bool, true, false, _&&_, _||_, and-or-distrib-left, or-true}
+use mathlib.Core.Path.{sym, _∙_}
+use mathlib.Core.Bool.{and-or-distrib-left, or-true}
 use borrow.Author.Needs.{needs}
 use Rattle.counting.proofs.question.with_asking.Statement.{statement}
 use Rattle.counting.proofs.question.with_asking.Tie as tie
 
 returns : tie.Need-returns
-returns c = 
+returns c =
     let yes = sym (c .before .before .asks .ensures) ∙ c .before .if1 .taken in
     rw (and-or-distrib-left, yes) (c .with .ensures)
 
 returns-2 : tie.Need-returns-2
-returns-2 c = 
+returns-2 c =
     let yes = sym (c .before .before .asks2 .ensures) ∙ c .before .if2 .taken in
     rw (and-or-distrib-left, yes, or-true) (c .with2 .ensures)
 

@@ -1,6 +1,6 @@
 -- `tally` meets its contract. The invariant: the sum is that of the slots passed, at most 4096 for each.
 use mathlib.Core.Path.{_≡_, refl}
-use Prim.Native.Nat.{_*_, _-_, _≤_, _<_}
+use Prim.Native.Nat.{_*_, _-_, _≤_}
 use native.Mathlib.Numerals.{add-one}
 use native.Mathlib.Omega.{arith}
 use borrow.Author.Needs.{needs}
@@ -28,8 +28,12 @@ share-le c =
     let j = c .before .before .loop .j in
     let a = c .before .before .before .before .args in
     let slot = slotAt (a .words .now) j in
-    omega (arith, c .share .ensures, gain-le (counts (a .promised) (bitAt (slot .code) (a .i))) (slot .copies),
-      c .before .before .before .before .pre .copies j (c .before .loop-test .taken))
+    omega (
+      arith,
+      c .share .ensures,
+      gain-le (counts (a .promised) (bitAt (slot .code) (a .i))) (slot .copies),
+      c .before .before .before .before .pre .copies j (c .before .loop-test .taken),
+    )
 
 loop-again : tie.Need-loop-again Inv-loop μ-loop
 unfolding slotsOf total

@@ -2,13 +2,9 @@
 use mathlib.Core.Path.{_≡_}
 use mathlib.Core.Bool.{true}
 use lib.ListN.{length}
-use Prim.Native.Nat.{_<_}
-use native.Mathlib.Omega.{arith}
 use borrow.Author.Needs.{needs}
 use Rattle.semantics.specs.Structure.{count}
 use Rattle.sets.specs.Set.{member}
-use Rattle.sets.specs.Word.{Greatest}
-use Rattle.wide.specs.Wide.{wideAt}
 use Rattle.counting.specs.Question.{problemOf}
 use Rattle.wants.proofs.Members.{count-removed}
 use Rattle.satisfy.specs.Promise.{Partly}

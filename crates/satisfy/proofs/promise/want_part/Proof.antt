@@ -4,7 +4,6 @@ use lib.ListN.{length}
 use borrow.Author.Needs.{needs}
 use Rattle.wide.specs.Wide.{wideAt}
 use Rattle.counting.specs.Question.{asks}
-use Rattle.wants.specs.Outcome.{Asked}
 use Rattle.satisfy.specs.Promise.{Held, onlyIf}
 use Rattle.satisfy.proofs.Promises.{held-both, held-clash}
 use Rattle.satisfy.proofs.promise.want_part.Statement.{statement}

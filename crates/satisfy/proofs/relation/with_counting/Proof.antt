@@ -1,10 +1,9 @@
 -- `with_counting` meets its contract: an entry asks by its own relation for what it bounds.
 use mathlib.Core.Path.{_≡_, refl, sym, _∙_}
-use mathlib.Core.Bool.{true, false, _||_, or-true}
+use mathlib.Core.Bool.{true, false, or-true}
 use borrow.Author.Needs.{needs}
 use Rattle.sets.specs.Set.{member}
 use Rattle.tableau.specs.Counting.{need, limit}
-use Rattle.satisfy.specs.Relation.{counting}
 use Rattle.satisfy.proofs.Counted.{asks-own}
 use Rattle.satisfy.proofs.relation.with_counting.Statement.{statement}
 use Rattle.satisfy.proofs.relation.with_counting.Tie as tie
