@@ -6,3 +6,5 @@ pub mod Promises
 pub mod Counted
 -- from worlds to relations and back
 pub mod Worlds
+-- what the functions that call each other hand to each other
+pub mod Calls

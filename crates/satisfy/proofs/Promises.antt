@@ -101,7 +101,7 @@ counting-uses true false k is = rw is refl
 counting-uses false true k is = rw is refl
 counting-uses false false k is = rw is refl
 
-counting-depth : (b c : Bool) (k x y : ℕ) → k ≡ boundKind b c → depthOf x y k ≡ suc x
+pub counting-depth : (b c : Bool) (k x y : ℕ) → k ≡ boundKind b c → depthOf x y k ≡ suc x
 counting-depth true true k x y is = rw is refl
 counting-depth true false k x y is = rw is refl
 counting-depth false true k x y is = rw is refl
