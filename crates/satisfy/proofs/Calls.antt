@@ -1,10 +1,10 @@
 -- What the functions that call each other hand to each other: each law takes what is known at a call to what the callee asks,
 -- or what the callee answers to what is to be returned.
 use mathlib.Core.Path.{_≡_, refl, sym, ap, _∙_}
-use mathlib.Core.Bool.{Bool, true, false, not, _&&_, _||_, false≢true}
+use mathlib.Core.Bool.{Bool, true, false, not, false≢true}
 use mathlib.Core.Logic.{⊎-elim}
 use mathlib.Core.List.{List}
-use Prim.Native.Nat.{ℕ, suc, _-_, _<_, _≤_}
+use Prim.Native.Nat.{ℕ, suc, _-_, _*_, _<_, _≤_}
 use native.Mathlib.Nat.{le-refl}
 use native.Mathlib.Omega.{arith}
 use lib.ListN.{length, take, drop, length-drop}
@@ -19,14 +19,17 @@ use Rattle.table.specs.declared.entry.Entry.{Entry}
 use Rattle.table.specs.Formulas.{depthAt}
 use Rattle.table.proofs.Accepted.{depth-rule}
 use Rattle.tableau.specs.Wants.{Answers, wanted}
-use Rattle.tableau.specs.Counting.{bound, need, limit, speaks, Feasible, Solution}
+use Rattle.tableau.specs.Counting.{bound, need, speaks, Feasible, Solution}
 use Rattle.tableau.specs.Search.{Problem, asking, Fit}
 use Rattle.tableau.proofs.Tests.{one-of, both-parts}
 use Rattle.tableau.proofs.Bounds.{bound-cases}
 use Rattle.counting.specs.declared.question.Question.{Question}
 use Rattle.counting.specs.Question.{Small}
+use Rattle.counting.specs.declared.Cursor.{Cursor}
+use Rattle.counting.specs.Search.{Asked, toDo}
+use Rattle.counting.proofs.Standing.{standing-bound}
+use Rattle.counting.proofs.Lent.{asked-kept, to-do-kept}
 use Rattle.wants.specs.declared.Wants.{Wants}
-use Rattle.wants.specs.Outcome.{wantedW}
 use Rattle.wants.proofs.Members.{count-removed}
 use Rattle.satisfy.specs.World.{SatW, Ready}
 use Rattle.satisfy.specs.Promise.{Promising, Promised}
@@ -39,26 +42,34 @@ module _ {entry : ℕ → Entry} {n : ℕ} {w : Wants} {bound depth : ℕ} (read
   -- nothing is pending
   pub ready-leaf : member (w .pending) ≡ nothing → Ready entry n w 0 depth
   ready-leaf none = record {
-    formed = ready .formed; few = ready .few; settled = ready .settled; shallow = ready .shallow;
-    pending-below = λ i h. absurd (false≢true (ap (λ (p : ℕ → Bool). p i) (sym none) ∙ h)) }
+    formed = ready .formed;
+    few = ready .few;
+    settled = ready .settled;
+    shallow = ready .shallow;
+    pending-below = λ i h. absurd (false≢true (ap (λ (p : ℕ → Bool). p i) (sym none) ∙ h));
+  }
 
   pub ready-wider : bound ≤ 64 → Ready entry n w 64 depth
   ready-wider small = record {
-    formed = ready .formed; few = ready .few; settled = ready .settled; shallow = ready .shallow;
-    pending-below = λ i h. omega (arith, ready .pending-below i h) }
+    formed = ready .formed;
+    few = ready .few;
+    settled = ready .settled;
+    shallow = ready .shallow;
+    pending-below = λ i h. omega (arith, ready .pending-below i h);
+  }
 
   pub ready-bounded : Bounded n w
   ready-bounded = record { few = ready .few; below = ready .settled .below }
 
 -- the second case decides, once the first has failed
 pub world-answer : {entry : ℕ → Entry} {n d depth : ℕ} {w : Wants} → Ready entry n w 64 depth → Greatest (member (w .pending)) d
-  → CaseAnswers entry w d true false → (r : Bool) → CaseAnswers entry w d false r → Answers r (SatW entry w)
+    → CaseAnswers entry w d true false → (r : Bool) → CaseAnswers entry w d false r → Answers r (SatW entry w)
 world-answer ready top one true sat = sat
 world-answer ready top one false two = cases-fail ready top one two
 
 -- a successor that can be had keeps the promises
 pub promised-fit : (P : Problem) (promises : Set) (depth : ℕ) → Promising P (member promises) depth → {v : Wants} → Promised P (member promises) depth v
-  → (r : Bool) → Answers r (SatW (P .entry) v) → Answers r (Fit P (code promises))
+    → (r : Bool) → Answers r (SatW (P .entry) v) → Answers r (Fit P (code promises))
 unfolding member
 promised-fit P promises depth all made true sat = record { within = all .within; feasible = made .sound sat }
 promised-fit P promises depth all made false unsat = λ fit. unsat (made .complete (fit .feasible))
@@ -77,11 +88,12 @@ module _ {entry : ℕ → Entry} {n : ℕ} {w : Wants} {b depth : ℕ} (ready : 
   counting-deep =
       let (c, h) = bound-of in
       let (b, want, k) = bound-cases (member (w .yes)) (member (w .no)) (entry i) i c h in
-      omega
-      (arith
-      , ready .shallow b i want
-      , depth-rule (ready .formed) i (ready .settled .below b i want)
-      , counting-depth b c _ (depthAt entry (entry i .first)) (depthAt entry (entry i .second)) k)
+      omega (
+        arith,
+        ready .shallow b i want,
+        depth-rule (ready .formed) i (ready .settled .below b i want),
+        counting-depth b c _ (depthAt entry (entry i .first)) (depthAt entry (entry i .second)) k,
+      )
 
 -- the problem that a question poses, where its wants are those of a world
 module _ {entry : ℕ → Entry} {n : ℕ} {w : Wants} {b depth : ℕ} (ready : Ready entry n w b depth) {e : Entry} {q : Question} (own : QuestionOf e w q) where
@@ -98,8 +110,12 @@ module _ {entry : ℕ → Entry} {n : ℕ} {w : Wants} {b depth : ℕ} (ready : 
   question-promising deep =
       let same : suc (depth - 1) ≡ depth = omega arith in
       record {
-        formed = ready .formed; few = ready .few; below = question-below; within = λ i h. h;
-        shallow = rw (same, own .yes, own .no) (ready .shallow) }
+        formed = ready .formed;
+        few = ready .few;
+        below = question-below;
+        within = λ i h. h;
+        shallow = rw (same, own .yes, own .no) (ready .shallow);
+      }
 
 -- what is done is fewer
 pub count-done : (p all : ℕ → Bool) {k n : ℕ} → p k ≡ true → all k ≡ true → k < n → count (butNot p all) n < count p n
@@ -121,18 +137,33 @@ length-behind l a = length-take-le (length l - a) (drop a l) (rw length-drop (le
 
 -- the question of an entry is about its own relation
 pub own-solution : {entry : ℕ → Entry} {e : Entry} {w : Wants} {q : Question} → QuestionOf e w q
-  → Solution entry (member (q .yes)) (member (q .no)) (q .relation) → Solution entry (member (w .yes)) (member (w .no)) (e .name)
+    → Solution entry (member (q .yes)) (member (q .no)) (q .relation) → Solution entry (member (w .yes)) (member (w .no)) (e .name)
 own-solution own solution = rw (own .yes, own .no, own .relation) at solution
 
 pub own-no-solution : {entry : ℕ → Entry} {e : Entry} {w : Wants} {q : Question} → QuestionOf e w q
-  → (Solution entry (member (q .yes)) (member (q .no)) (q .relation) → ⊥) → Solution entry (member (w .yes)) (member (w .no)) (e .name) → ⊥
+    → (Solution entry (member (q .yes)) (member (q .no)) (q .relation) → ⊥) → Solution entry (member (w .yes)) (member (w .no)) (e .name) → ⊥
 own-no-solution own none = rw (own .yes, own .no, own .relation) at none
 
 pub own-asking : {e : Entry} {w : Wants} {q : Question} → QuestionOf e w q → (i : ℕ) → counting w e i ≡ true
-  → speaks (member (q .yes)) (member (q .no)) e i (q .relation) ≡ true
+    → speaks (member (q .yes)) (member (q .no)) e i (q .relation) ≡ true
 own-asking {e} own i counts = rw (own .yes, own .no, own .relation, eq-eqb (e .name) (e .name) refl) counts
 
 -- promises that cannot be kept
 pub promised-unfit : (P : Problem) (promises : Set) → (Feasible (P .entry) (P .yes) (P .no) (member promises) → ⊥) → Fit P (code promises) → ⊥
 unfolding member
 promised-unfit P promises none fit = none (fit .feasible)
+
+pub within-same : {p q r : ℕ → Bool} → q ≡ r → Within p q → Within p r
+within-same is within i h = sym (ap (λ (s : ℕ → Bool). s i) is) ∙ within i h
+
+-- a search goes on behind a call that kept the words of the level
+module _ (P : Problem) (all : Set) (words others : List ℕ) (c : Cursor) (m : ℕ) {depth level : ℕ} (asked : Asked P all words c m)
+    (room : Roomy (P .entry) (P .n) depth level (length words)) (as-many : length others ≡ length words) (same : take level others ≡ take level words) where
+  level-fits : 2 * c .slots ≤ level
+  level-fits = omega (arith, standing-bound (asked .at .standing), room .stack)
+
+  pub still-asked : Asked P all others c m
+  still-asked = asked-kept words others as-many level same c level-fits asked
+
+  pub still-to-do : toDo others c ≡ toDo words c
+  still-to-do = to-do-kept words others as-many level same c level-fits

@@ -2,3 +2,4 @@
 pub mod branch;
 pub mod promise;
 pub mod relation;
+pub mod world;
