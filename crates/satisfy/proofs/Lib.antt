@@ -8,3 +8,5 @@ pub mod Counted
 pub mod Worlds
 -- what the functions that call each other hand to each other
 pub mod Calls
+-- the question through two sets
+pub mod Sets

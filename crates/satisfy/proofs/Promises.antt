@@ -85,7 +85,7 @@ module _ (entry : ℕ → Entry) (n e : ℕ) (w : Wants) where
     held-clash clash = λ s v m so. clash s v m (only-of asked _ so true)
 
 -- nothing is wanted
-empty-settled : (entry : ℕ → Entry) (n : ℕ) → Settled entry n nothing nothing nothing
+pub empty-settled : (entry : ℕ → Entry) (n : ℕ) → Settled entry n nothing nothing nothing
 empty-settled entry n = record {
   below = elim [ true ↦ λ i h. absurd (false≢true h) | false ↦ λ i h. absurd (false≢true h) ];
   treated = elim [ true ↦ λ i h. absurd (false≢true h) | false ↦ λ i h. absurd (false≢true h) ];

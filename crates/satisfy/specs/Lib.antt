@@ -7,3 +7,5 @@ pub mod Promise
 pub mod Relation
 -- what the functions that call each other ask and answer
 pub mod Asking
+-- the question through two sets
+pub mod Sets

@@ -1,4 +1,5 @@
 // Whether what is wanted can be had at some world of some finite structure.
+pub mod ask;
 pub mod branch;
 pub mod promise;
 pub mod relation;
