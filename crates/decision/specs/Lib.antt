@@ -1,0 +1,2 @@
+-- the decision call
+pub mod Decide
