@@ -1,12 +1,13 @@
 -- What the decision of an accepted table may count on, and words that are cleared one by one.
-use mathlib.Core.Path.{_≡_, refl, _∙_}
+use mathlib.Core.Path.{_≡_, refl, sym, ap, _∙_}
 use mathlib.Core.Bool.{not, _||_}
-use mathlib.Core.List.{List}
-use Prim.Native.Nat.{ℕ, suc, _%_, _<_, _≤_}
+use mathlib.Core.List.{List, _++_}
+use Prim.Native.Nat.{ℕ, suc, _+_, _-_, _%_, _<_, _≤_}
 use native.Mathlib.Nat.{not-suc-le-zero}
 use native.Mathlib.Omega.{arith}
 use lib.Dec.{eqb, ltb}
-use lib.ListN.{length, getD, set, length-set}
+use lib.ListN.{length, getD, set, take, drop, length-set}
+use lib.Seq.{length-front, length-take-le, getD-append-add, getD-drop}
 use borrow.Author.Tests.{ltb-false}
 use Rattle.faults.specs.declared.Fault.the-variants.{TableLength, Depth}
 use Rattle.faults.specs.declared.Verdict.the-variants.{Accepted}
@@ -42,4 +43,16 @@ cleared-next {n} {before} {after} cleared room = record {
   same-length = length-set after n 0 ∙ cleared .same-length;
   zero = fill-below (λ i. 0) (λ i. getD before i 0) n after (cleared .zero) (cleared .rest) room;
   rest = fill-behind (λ i. 0) (λ i. getD before i 0) n after (cleared .zero) (cleared .rest);
+}
+
+-- words of which the first n were worked in, then cleared
+pub cleared-over : (n : ℕ) (worked before : List ℕ) {after : List ℕ} → length worked ≡ length (take n before) → n ≤ length before → Cleared n (worked ++ drop n before) after
+    → Cleared n before after
+cleared-over n worked before as-many room cleared = record {
+  same-length = cleared .same-length ∙ length-front before worked n as-many;
+  zero = cleared .zero;
+  rest = λ i h.
+      let e : length worked + (i - n) ≡ i = omega (arith, as-many, length-take-le n before room) in
+      let f : n + (i - n) ≡ i = omega arith in
+      cleared .rest i h ∙ ap (λ (k : ℕ). getD (worked ++ drop n before) k 0) (sym e) ∙ getD-append-add worked (drop n before) (i - n) 0 ∙ getD-drop n before (i - n) 0 ∙ ap (λ (k : ℕ). getD before k 0) f;
 }

@@ -6,11 +6,14 @@ use lib.Dec.{leb, ltb}
 use lib.ListN.{length, getD}
 use Rattle.faults.specs.declared.Fault.the-variants.{EntryNumber, Space}
 use Rattle.faults.specs.declared.Verdict.{Verdict}
+use Rattle.faults.specs.declared.Verdict.the-variants.{Accepted, Refused}
 use Rattle.faults.specs.Verdict.{refuseIf, andThen}
+use Rattle.semantics.specs.Truth.{Satisfiable}
 use Rattle.table.specs.Entry.{entryAt, size}
-use Rattle.table.specs.Formulas.{depthAt}
+use Rattle.table.specs.Formulas.{formulaAt, depthAt}
 use Rattle.table.specs.Space.{tableWork}
 use Rattle.table.specs.Check.{tableVerdict}
+use Rattle.decision.specs.declared.Decision.{Decision}
 
 -- document 01's W for the decision of entry e
 abbrev pub entryWork : List ℕ → ℕ → ℕ
@@ -26,3 +29,11 @@ pub record Cleared (n : ℕ) (before after : List ℕ) : Type 0 where
   pub same-length : length after ≡ length before
   pub zero : (i : ℕ) → i < n → getD after i 0 ≡ 0
   pub rest : (i : ℕ) → n ≤ i → getD after i 0 ≡ getD before i 0
+
+-- what a decision answers, and what the lent words are then
+abbrev pub DecisionIs : List ℕ → ℕ → List ℕ → List ℕ → Decision → Type 0
+DecisionIs bytes e before after Decision.Possible =
+    (decideVerdict bytes e (length before) ≡ Accepted) × Satisfiable (formulaAt (entryAt bytes) e) × Cleared (entryWork bytes e) before after
+DecisionIs bytes e before after Decision.Impossible =
+    (decideVerdict bytes e (length before) ≡ Accepted) × (Satisfiable (formulaAt (entryAt bytes) e) → ⊥) × Cleared (entryWork bytes e) before after
+DecisionIs bytes e before after (Decision.Refused f) = (decideVerdict bytes e (length before) ≡ Refused f) × (after ≡ before)
