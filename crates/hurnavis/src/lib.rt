@@ -3,7 +3,9 @@
 ghost use mathlib.Core.Path.{_≡_};
 ghost use lib.ListN.{length};
 ghost use Rattle.table.specs.Check.{tableVerdict};
+ghost use Rattle.decision.specs.Decide.{DecisionIs};
 ghost use Rattle.truth_table.specs.Board.{boardVerdict, BoardAfter};
+use decision::Decision;
 use faults::Verdict;
 
 // Whether a table is accepted; if not, its first fault in document 01's order, a number from 1 to 5.
@@ -21,4 +23,13 @@ pub fn board(table: &[u8], structure: &[u8], words: &mut [u64]) -> Verdict
         × BoardAfter (now (table .entry)) (now (structure .entry)) (now (words .entry)) r (now (words .exit)) ⌝ }
 {
     truth_table::board(table, structure, words)
+}
+
+// Whether entry e of a table is possible: some world of some finite structure makes it true, whatever its size. Works in the
+// first W words (document 01) and leaves 0 in them; the words behind stay as they were. Refuses with a number from 1 to 5,
+// 9 for an entry that is not there, or 10 for too few words, and then leaves all words as they were.
+pub fn decide(table: &[u8], e: usize, words: &mut [u64]) -> Decision
+    ensures { λ r. ⌜ DecisionIs (now (table .entry)) e (now (words .entry)) (now (words .exit)) r ⌝ }
+{
+    decision::decide(table, e, words)
 }
