@@ -1,6 +1,6 @@
 -- A question as the problem that it poses.
 use mathlib.Core.Path.{_≡_}
-use mathlib.Core.Bool.{Bool, true, _&&_}
+use mathlib.Core.Bool.{Bool, true, false, _&&_}
 use mathlib.Core.List.{List}
 use Prim.Native.Nat.{ℕ, _<_, _≤_}
 use lib.Dec.{eqb}
@@ -9,8 +9,8 @@ use Rattle.sets.specs.Set.{member}
 use Rattle.table.specs.declared.entry.Entry.{Entry}
 use Rattle.wide.specs.Wide.{wideAt}
 use Rattle.tableau.specs.Wants.{wanted}
-use Rattle.tableau.specs.Counting.{bound}
-use Rattle.tableau.specs.Search.{Problem}
+use Rattle.tableau.specs.Counting.{bound, lo, hi}
+use Rattle.tableau.specs.Search.{Problem, Asks}
 use Rattle.counting.specs.declared.question.Question.{Question}
 
 -- the needs and limits of the question's relation
@@ -26,3 +26,9 @@ asks q e i c = eqb (e .name) (q .relation) && bound (member (q .yes)) (member (q
 pub record Small (P : Problem) : Type 0 where
   pub few : P .n ≤ 64
   pub below : (b : Bool) (i : ℕ) → wanted (P .yes) (P .no) b i ≡ true → i < P .n
+
+-- entry i is a need, and entry j a limit that allows fewer
+pub record Exceeds (P : Problem) (i j : ℕ) : Type 0 where
+  pub need : Asks P true i
+  pub limit : Asks P false j
+  pub more : hi (P .entry j) < lo (P .entry i)

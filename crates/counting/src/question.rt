@@ -1,11 +1,13 @@
 // What is asked of the successors by one relation: which entries are needs, which are limits, and what they ask for.
 ghost use mathlib.Core.Path.{_≡_};
+ghost use mathlib.Core.Bool.{true};
 ghost use Prim.Native.Nat.{_-_, _<_};
+ghost use lib.ListN.{length};
 ghost use Rattle.sets.specs.Set.{member};
 ghost use Rattle.tableau.specs.Wants.{wanted, addedIf};
 ghost use Rattle.tableau.specs.Counting.{bound, speaks, lo, hi};
 ghost use Rattle.tableau.specs.Search.{asking};
-ghost use Rattle.counting.specs.Question.{problemOf, asks, Small};
+ghost use Rattle.counting.specs.Question.{problemOf, asks, Small, Exceeds};
 use sets::Set;
 use table::entry::Entry;
 use wide::wide_at;
@@ -72,6 +74,22 @@ pub fn most(e: Entry) -> u64
     let kind = e.kind;
     let grade = e.grade as u64;
     if kind == 6 { less(grade, 1) } else { grade }
+}
+
+// Whether entry i is a need, and entry j a limit that allows fewer.
+pub fn exceeds(entries: &[u64], q: Question, i: usize, j: usize) -> bool
+    requires { ⌜ (i < length (now entries)) × (j < length (now entries)) ⌝ }
+    ensures { λ r. ⌜ (r ≡ true → Exceeds (problemOf (now (entries .entry)) q) i j) ⌝ }
+{
+    let need = wide_at(entries, i);
+    let limit = wide_at(entries, j);
+    if !asks(need, q, i, true) {
+        return false;
+    }
+    if !asks(limit, q, j, false) {
+        return false;
+    }
+    most(limit) < least(need)
 }
 
 // The set with entry i, if that is a need or a limit.

@@ -6,6 +6,8 @@ pub mod Promises
 pub mod Counted
 -- from worlds to relations and back
 pub mod Worlds
+-- two entries that exclude each other
+pub mod Pairs
 -- what the functions that call each other hand to each other
 pub mod Calls
 -- the question through two sets

@@ -12,7 +12,7 @@ use Rattle.table.specs.declared.entry.Entry.{Entry}
 use Rattle.table.specs.Space.{gradeSum}
 use Rattle.tableau.specs.Wants.{Answers}
 use Rattle.tableau.specs.Counting.{Solution}
-use Rattle.tableau.specs.Search.{Problem, asking, Fit}
+use Rattle.tableau.specs.Search.{Problem, asking, Fit, Solvable}
 use Rattle.wants.specs.declared.Wants.{Wants}
 use Rattle.wants.specs.Outcome.{MeetsW}
 use Rattle.satisfy.specs.World.{SatW, CaseOf, Ready}
@@ -69,4 +69,9 @@ module _ (P : Problem) where
   -- can the promises be kept; the words of the level are as before
   pub record Kept (promises : Set) (level : ℕ) (before after : List ℕ) (r : Bool) : Type 0 where
     pub answers : Answers r (Fit P (code promises))
+    pub same : take level after ≡ take level before
+
+  -- the problem is known to have no solution; the words of the level are as before
+  pub record Opposed (level : ℕ) (before after : List ℕ) (r : Bool) : Type 0 where
+    pub answers : r ≡ true → Solvable P → ⊥
     pub same : take level after ≡ take level before

@@ -1,6 +1,8 @@
 // What the promises of a successor come to, as wants at its world.
 ghost use lib.ListN.{length};
-ghost use Rattle.sets.specs.Set.{member};
+ghost use mathlib.Core.Path.{_≡_};
+ghost use Prim.Native.Nat.{_<_};
+ghost use Rattle.sets.specs.Set.{member, nothing, added};
 ghost use Rattle.wide.specs.Wide.{wideAt};
 ghost use Rattle.counting.specs.Question.{problemOf, asks};
 ghost use Rattle.wants.specs.Outcome.{Asked};
@@ -13,6 +15,14 @@ use sets::Set;
 use wants::Outcome;
 use wants::Wants;
 use wide::wide_at;
+
+// The promises of two entries.
+pub fn pair(i: usize, j: usize) -> Set
+    requires { ⌜ (i < 64) × (j < 64) ⌝ }
+    ensures { λ r. ⌜ member r ≡ added (added nothing i) j ⌝ }
+{
+    Set::empty().with(i).with(j)
+}
 
 // Wants entry e to be so, if that is asked.
 fn want_if(entries: &[u64], e: usize, w: Wants, truth: bool, so: bool) -> Outcome

@@ -8,14 +8,16 @@ ghost use Rattle.tableau.specs.Wants.{Answers};
 ghost use Rattle.tableau.specs.Search.{Solvable};
 ghost use Rattle.counting.specs.Question.{problemOf};
 ghost use Rattle.satisfy.specs.World.{SatW};
-ghost use Rattle.satisfy.specs.Asking.{WorldAsked, CaseAsked, CaseAnswers, LeafAsked, ProblemAsked, PromisesAsked, Kept};
+ghost use Rattle.satisfy.specs.Asking.{WorldAsked, CaseAsked, CaseAnswers, LeafAsked, ProblemAsked, PromisesAsked, Kept, Opposed};
 use crate::branch::branch;
+use crate::promise::pair;
 use crate::promise::promised;
 use crate::relation::counted;
 use crate::relation::question_of;
 use counting::Step;
 use counting::question::Question;
 use counting::question::asking;
+use counting::question::exceeds;
 use counting::search;
 use counting::skip;
 use counting::start;
@@ -107,8 +109,51 @@ fn solve(
                 if keeps(entries, q, next, depth, level, work) {
                     at = take(work, all, asked, m);
                 } else {
+                    if opposed(entries, q, all, next, depth, level, work) {
+                        return false;
+                    }
                     at = skip(all, asked);
                 }
+            }
+        }
+    }
+}
+
+// Whether a need and a limit are found that exclude each other: the need asks for more than the limit allows, and no
+// successor keeps both promises. They are looked for once, behind the set of all promises; if there are but two, that was it.
+fn opposed(
+    entries: &[u64],
+    q: Question,
+    all: Set,
+    tried: Set,
+    depth: usize,
+    level: usize,
+    work: &mut [u64],
+) -> bool
+    requires { ⌜ ProblemAsked (problemOf (now entries) q) all depth level (length (now work)) ⌝ }
+    ensures { λ r. ⌜ Opposed (problemOf (now (entries .entry)) q) level (now (work .entry)) (now (work .exit)) r ⌝ }
+{
+    if tried.code() < all.code() || all.len() < 3 {
+        return false;
+    }
+    let mut needs = all;
+    let mut limits = all;
+    loop {
+        let Highest::At(i) = needs.highest() else {
+            return false;
+        };
+        match limits.highest() {
+            Highest::At(j) => {
+                limits = limits.without(j);
+                if exceeds(entries, q, i, j) {
+                    if !keeps(entries, q, pair(i, j), depth, level, work) {
+                        return true;
+                    }
+                }
+            }
+            Highest::Nothing => {
+                needs = needs.without(i);
+                limits = all;
             }
         }
     }

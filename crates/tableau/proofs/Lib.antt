@@ -31,5 +31,7 @@ pub mod Ends
 pub mod Potential
 -- why its stack stays small
 pub mod Stack
+-- a need and a limit that exclude each other
+pub mod Opposed
 -- the search step by step
 pub mod Searching

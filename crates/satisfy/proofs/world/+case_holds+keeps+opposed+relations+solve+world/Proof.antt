@@ -1,5 +1,5 @@
 use Prim.Native.Nat.{ℕ, _+_, _-_, _*_, _<_, _≤_}
-use mathlib.Core.Bool.{Bool, true}
+use mathlib.Core.Bool.{Bool, true, false≢true}
 use borrow.Author.Tests.{not-true, not-false}
 use borrow.Rule.Slice.PartMut.{take-put}
 use mathlib.Core.Path.{_≡_, refl, ap, _∙_}
@@ -7,7 +7,7 @@ use native.Mathlib.Omega.{arith}
 use lib.ListN.{length, take}
 use borrow.Author.Needs.{needs}
 use Rattle.semantics.specs.Structure.{count}
-use Rattle.sets.specs.Set.{member}
+use Rattle.sets.specs.Set.{member, Within}
 use Rattle.sets.specs.Word.{Greatest}
 use Rattle.wide.specs.Wide.{wideAt}
 use Rattle.counting.specs.Question.{problemOf}
@@ -18,37 +18,48 @@ use Rattle.satisfy.specs.Relation.{counting}
 use Rattle.satisfy.specs.Asking.{Solving, Roomy}
 use Rattle.satisfy.proofs.Worlds.{case-answer, solving-none, solving-next, solving-done, unsolved, room-below, room-level}
 use Rattle.satisfy.proofs.Promises.{promising-fewer}
+use Rattle.satisfy.proofs.Pairs.{within-removed, chosen-below, pair-asked, pair-opposed}
+use Rattle.semantics.proofs.Count.{count-le}
+use Rattle.wants.proofs.Members.{count-removed}
 use Rattle.satisfy.proofs.Calls.{ready-leaf, ready-wider, ready-bounded, world-answer, promised-fit, counting-below, counting-deep, question-small, question-promising, count-done, room-kept, length-behind, own-solution, own-no-solution, own-asking, promised-unfit, within-same, still-asked, still-to-do}
 use borrow.Fn.Kinds.{In}
 use borrow.Fn.PlainCycle.{Measures, is, falls, and}
 use Rattle.satisfy.proofs.world.case_holds.Reads as case-holds
 use Rattle.satisfy.proofs.world.case_holds.Kinds as case-holds-kinds
-use Rattle.satisfy.proofs.world.+case_holds+keeps+relations+solve+world.Lts-case_holds as case-holds-lts
+use Rattle.satisfy.proofs.world.+case_holds+keeps+opposed+relations+solve+world.Lts-case_holds as case-holds-lts
 use Rattle.satisfy.proofs.world.keeps.Reads as keeps
 use Rattle.satisfy.proofs.world.keeps.Kinds as keeps-kinds
-use Rattle.satisfy.proofs.world.+case_holds+keeps+relations+solve+world.Lts-keeps as keeps-lts
+use Rattle.satisfy.proofs.world.+case_holds+keeps+opposed+relations+solve+world.Lts-keeps as keeps-lts
+use Rattle.satisfy.proofs.world.opposed.Reads as opposed
+use Rattle.satisfy.proofs.world.opposed.Kinds as opposed-kinds
+use Rattle.satisfy.proofs.world.+case_holds+keeps+opposed+relations+solve+world.Lts-opposed as opposed-lts
 use Rattle.satisfy.proofs.world.relations.Reads as relations
 use Rattle.satisfy.proofs.world.relations.Kinds as relations-kinds
-use Rattle.satisfy.proofs.world.+case_holds+keeps+relations+solve+world.Lts-relations as relations-lts
+use Rattle.satisfy.proofs.world.+case_holds+keeps+opposed+relations+solve+world.Lts-relations as relations-lts
 use Rattle.satisfy.proofs.world.solve.Reads as solve
 use Rattle.satisfy.proofs.world.solve.Kinds as solve-kinds
-use Rattle.satisfy.proofs.world.+case_holds+keeps+relations+solve+world.Lts-solve as solve-lts
+use Rattle.satisfy.proofs.world.+case_holds+keeps+opposed+relations+solve+world.Lts-solve as solve-lts
 use Rattle.satisfy.proofs.world.world.Reads as world
 use Rattle.satisfy.proofs.world.world.Kinds as world-kinds
-use Rattle.satisfy.proofs.world.+case_holds+keeps+relations+solve+world.Lts-world as world-lts
+use Rattle.satisfy.proofs.world.+case_holds+keeps+opposed+relations+solve+world.Lts-world as world-lts
 use Rattle.counting.proofs.question.asking.Reads as asking-reads
+use Rattle.counting.proofs.question.exceeds.Reads as exceeds-reads
 use Rattle.counting.proofs.search.Reads as search-reads
 use Rattle.counting.proofs.skip.Reads as skip-reads
 use Rattle.counting.proofs.start.Reads as start-reads
 use Rattle.counting.proofs.take.Reads as take-reads
 use Rattle.satisfy.proofs.branch.branch.Reads as branch-reads
+use Rattle.satisfy.proofs.promise.pair.Reads as pair-reads
 use Rattle.satisfy.proofs.promise.promised.Reads as promised-reads
 use Rattle.satisfy.proofs.relation.counted.Reads as counted-reads
 use Rattle.satisfy.proofs.relation.question_of.Reads as question-of-reads
+use Rattle.sets.proofs.Set.code.Reads as code-reads
 use Rattle.sets.proofs.Set.highest.Reads as highest-reads
+use Rattle.sets.proofs.Set.len.Reads as len-reads
 use Rattle.sets.proofs.Set.minus.Reads as minus-reads
-use Rattle.satisfy.proofs.world.+case_holds+keeps+relations+solve+world.{statement}
-use Rattle.satisfy.proofs.world.+case_holds+keeps+relations+solve+world.Tie.{close}
+use Rattle.sets.proofs.Set.without.Reads as without-reads
+use Rattle.satisfy.proofs.world.+case_holds+keeps+opposed+relations+solve+world.{statement}
+use Rattle.satisfy.proofs.world.+case_holds+keeps+opposed+relations+solve+world.Tie.{close}
 
 abbrev μ-case-holds : Measures 2 case-holds-kinds.ps ℕ
 μ-case-holds κs a = a .1 .1 .1 .1 .0 * 256 + (a .1 .1 .0 + a .1 .1 .0) + 6
@@ -56,11 +67,14 @@ abbrev μ-case-holds : Measures 2 case-holds-kinds.ps ℕ
 abbrev μ-keeps : Measures 2 keeps-kinds.ps ℕ
 μ-keeps κs a = a .1 .1 .1 .0 * 256 + 1
 
+abbrev μ-opposed : Measures 2 opposed-kinds.ps ℕ
+μ-opposed κs a = a .1 .1 .1 .1 .0 * 256 + 2
+
 abbrev μ-relations : Measures 2 relations-kinds.ps ℕ
-μ-relations κs a = a .1 .1 .0 * 256 + 3
+μ-relations κs a = a .1 .1 .0 * 256 + 4
 
 abbrev μ-solve : Measures 2 solve-kinds.ps ℕ
-μ-solve κs a = a .1 .1 .1 .0 * 256 + 2
+μ-solve κs a = a .1 .1 .1 .0 * 256 + 3
 
 abbrev μ-world : Measures 2 world-kinds.ps ℕ
 μ-world κs a = a .1 .1 .1 .0 * 256 + (a .1 .1 .0 + a .1 .1 .0) + 5
@@ -78,6 +92,12 @@ keeps-at t = and 2 keeps-kinds.ps (is 2 keeps-kinds.ps μ-keeps t) keeps.Pre
 
 abbrev keeps-below : ℕ → In 2 keeps-kinds.ps
 keeps-below t = and 2 keeps-kinds.ps (falls 2 keeps-kinds.ps _<_ μ-keeps t) keeps.Pre
+
+abbrev opposed-at : ℕ → In 2 opposed-kinds.ps
+opposed-at t = and 2 opposed-kinds.ps (is 2 opposed-kinds.ps μ-opposed t) opposed.Pre
+
+abbrev opposed-below : ℕ → In 2 opposed-kinds.ps
+opposed-below t = and 2 opposed-kinds.ps (falls 2 opposed-kinds.ps _<_ μ-opposed t) opposed.Pre
 
 abbrev relations-at : ℕ → In 2 relations-kinds.ps
 relations-at t = and 2 relations-kinds.ps (is 2 relations-kinds.ps μ-relations t) relations.Pre
@@ -107,13 +127,17 @@ abbrev keeps-calls : ℕ → keeps-lts.Claims
 keeps-calls t =
     (promised-reads.Asked, promised-reads.Learnt, world-below t, world.Post)
 
+abbrev opposed-calls : ℕ → opposed-lts.Claims
+opposed-calls t =
+    (code-reads.Asked, code-reads.Learnt, len-reads.Asked, len-reads.Learnt, highest-reads.Asked, highest-reads.Learnt, without-reads.Asked, without-reads.Learnt, exceeds-reads.Asked, exceeds-reads.Learnt, pair-reads.Asked, pair-reads.Learnt, keeps-below t, keeps.Post)
+
 abbrev relations-calls : ℕ → relations-lts.Claims
 relations-calls t =
     (counted-reads.Asked, counted-reads.Learnt, highest-reads.Asked, highest-reads.Learnt, question-of-reads.Asked, question-of-reads.Learnt, asking-reads.Asked, asking-reads.Learnt, solve-below t, solve.Post, minus-reads.Asked, minus-reads.Learnt)
 
 abbrev solve-calls : ℕ → solve-lts.Claims
 solve-calls t =
-    (start-reads.Asked, start-reads.Learnt, search-reads.Asked, search-reads.Learnt, keeps-below t, keeps.Post, take-reads.Asked, take-reads.Learnt, skip-reads.Asked, skip-reads.Learnt)
+    (start-reads.Asked, start-reads.Learnt, search-reads.Asked, search-reads.Learnt, keeps-below t, keeps.Post, take-reads.Asked, take-reads.Learnt, opposed-below t, opposed.Post, skip-reads.Asked, skip-reads.Learnt)
 
 abbrev world-calls : ℕ → world-lts.Claims
 world-calls t =
@@ -202,6 +226,123 @@ keeps-returns t c =
 
 keeps-returns-2 : (t : ℕ) → keeps-lts.Need-returns-2 (keeps-calls t) (keeps-at t) keeps.Post
 keeps-returns-2 t c = record { answers = promised-unfit (problemOf (c .before .before .before .before .before .args .entries .now) (c .before .before .before .before .before .args .q)) (c .before .before .before .before .before .args .promises) (rw (c .enum-told .given .1) at (c .before .before .promised .ensures)); same = refl }
+
+abbrev opposed-Inv-loop : opposed-lts.InvT-loop
+opposed-Inv-loop entries q all depth level work₀ needs₀ limits₀ work needs limits =
+    Within (member needs) (member all) × Within (member limits) (member all) × (length work ≡ length work₀) × (take level work ≡ take level work₀)
+
+abbrev opposed-μ-loop : opposed-lts.MeasureT-loop
+opposed-μ-loop entries q all depth level work₀ needs₀ limits₀ work needs limits = count (member needs) (length entries) * 65 + count (member limits) (length entries)
+
+opposed-code-requires : (t : ℕ) → opposed-lts.Need-code-requires (opposed-calls t) (opposed-at t) opposed.Post opposed-Inv-loop opposed-μ-loop
+opposed-code-requires t c κs = search needs
+
+opposed-code-requires-2 : (t : ℕ) → opposed-lts.Need-code-requires-2 (opposed-calls t) (opposed-at t) opposed.Post opposed-Inv-loop opposed-μ-loop
+opposed-code-requires-2 t c κs = search needs
+
+opposed-len-requires : (t : ℕ) → opposed-lts.Need-len-requires (opposed-calls t) (opposed-at t) opposed.Post opposed-Inv-loop opposed-μ-loop
+opposed-len-requires t c κs = search needs
+
+opposed-returns : (t : ℕ) → opposed-lts.Need-returns (opposed-calls t) (opposed-at t) opposed.Post opposed-Inv-loop opposed-μ-loop
+opposed-returns t c = record { answers = λ e. absurd (false≢true e); same = refl }
+
+opposed-loop-holds : (t : ℕ) → opposed-lts.Need-loop-holds (opposed-calls t) (opposed-at t) opposed.Post opposed-Inv-loop opposed-μ-loop
+opposed-loop-holds t c = (λ i h. h, λ i h. h, refl, refl)
+
+opposed-highest-requires : (t : ℕ) → opposed-lts.Need-highest-requires (opposed-calls t) (opposed-at t) opposed.Post opposed-Inv-loop opposed-μ-loop
+opposed-highest-requires t c κs = search needs
+
+opposed-enum-known-i : (t : ℕ) → opposed-lts.Need-enum-known-i (opposed-calls t) (opposed-at t) opposed.Post opposed-Inv-loop opposed-μ-loop
+opposed-enum-known-i t c = search needs
+
+opposed-enum-told : (t : ℕ) → opposed-lts.Need-enum-told (opposed-calls t) (opposed-at t) opposed.Post opposed-Inv-loop opposed-μ-loop
+opposed-enum-told t c = search needs
+
+opposed-same-length : (t : ℕ) → opposed-lts.Need-same-length (opposed-calls t) (opposed-at t) opposed.Post opposed-Inv-loop opposed-μ-loop
+opposed-same-length t c = c .before .before .before .loop .inv .2
+
+opposed-returns-2 : (t : ℕ) → opposed-lts.Need-returns-2 (opposed-calls t) (opposed-at t) opposed.Post opposed-Inv-loop opposed-μ-loop
+opposed-returns-2 t c = record { answers = λ e. absurd (false≢true e); same = c .before .before .before .loop .inv .3 }
+
+opposed-highest-requires-2 : (t : ℕ) → opposed-lts.Need-highest-requires-2 (opposed-calls t) (opposed-at t) opposed.Post opposed-Inv-loop opposed-μ-loop
+opposed-highest-requires-2 t c κs = search needs
+
+opposed-enum-known-j : (t : ℕ) → opposed-lts.Need-enum-known-j (opposed-calls t) (opposed-at t) opposed.Post opposed-Inv-loop opposed-μ-loop
+opposed-enum-known-j t c = search needs
+
+-- the two entries at hand
+first-in : (t : ℕ) (c : opposed-lts.After-i (opposed-calls t) (opposed-at t) opposed.Post opposed-Inv-loop opposed-μ-loop) → member (c .before .before .before .loop .needs) (c .i .given .0 .0) ≡ true
+first-in t c = (rw (c .i .given .1) at (c .before .before .highest .ensures)) .here
+
+first-below : (t : ℕ) (c : opposed-lts.After-i (opposed-calls t) (opposed-at t) opposed.Post opposed-Inv-loop opposed-μ-loop) → c .i .given .0 .0 < length (c .before .before .before .before .before .before .before .before .before .before .before .args .entries .now)
+first-below t c = chosen-below (c .before .before .before .before .before .before .before .before .before .before .before .pre .1) (c .before .before .before .loop .inv .0) _ (first-in t c)
+
+second-in : (t : ℕ) (c : opposed-lts.After-j (opposed-calls t) (opposed-at t) opposed.Post opposed-Inv-loop opposed-μ-loop) → member (c .before .before .before .before .before .before .before .loop .limits) (c .j .given .0 .0) ≡ true
+second-in t c = (rw (c .j .given .1) at (c .before .before .highest2 .ensures)) .here
+
+second-below : (t : ℕ) (c : opposed-lts.After-j (opposed-calls t) (opposed-at t) opposed.Post opposed-Inv-loop opposed-μ-loop) → c .j .given .0 .0 < length (c .before .before .before .before .before .before .before .before .before .before .before .before .before .before .before .args .entries .now)
+second-below t c = chosen-below (c .before .before .before .before .before .before .before .before .before .before .before .before .before .before .before .pre .1) (c .before .before .before .before .before .before .before .loop .inv .1) _ (second-in t c)
+
+opposed-without-requires : (t : ℕ) → opposed-lts.Need-without-requires (opposed-calls t) (opposed-at t) opposed.Post opposed-Inv-loop opposed-μ-loop
+opposed-without-requires t c κs = search needs
+
+opposed-exceeds-requires : (t : ℕ) → opposed-lts.Need-exceeds-requires (opposed-calls t) (opposed-at t) opposed.Post opposed-Inv-loop opposed-μ-loop
+opposed-exceeds-requires t c κs = (first-below t (c .before .before .before .before .before .before), second-below t (c .before .before))
+
+opposed-pair-requires : (t : ℕ) → opposed-lts.Need-pair-requires (opposed-calls t) (opposed-at t) opposed.Post opposed-Inv-loop opposed-μ-loop
+opposed-pair-requires t c κs = (omega (arith, first-below t (c .before .before .before .before .before .before .before .before), c .before .before .before .before .before .before .before .before .before .before .before .before .before .before .before .before .before .before .before .pre .1 .promising .few), omega (arith, second-below t (c .before .before .before .before), c .before .before .before .before .before .before .before .before .before .before .before .before .before .before .before .before .before .before .before .pre .1 .promising .few))
+
+opposed-keeps-requires : (t : ℕ) → opposed-lts.Need-keeps-requires (opposed-calls t) (opposed-at t) opposed.Post opposed-Inv-loop opposed-μ-loop
+opposed-keeps-requires t c κs =
+    let start = c .before .before .before .before .before .before .before .before .before .before .before .before .before .before .before .before .before .before .before .before .before in
+    let asked = start .pre .1 in (
+      omega (arith, start .pre .0),
+      record {
+        promising = pair-asked asked _ _ _ (c .before .pair .ensures) (c .before .before .before .before .before .before .before .before .before .before .before .before .before .loop .inv .0 _ (first-in t (c .before .before .before .before .before .before .before .before .before .before))) (c .before .before .before .before .before .before .before .before .before .before .before .before .before .loop .inv .1 _ (second-in t (c .before .before .before .before .before .before)));
+        deep = asked .deep;
+        room = room-kept (c .before .before .before .before .before .before .before .before .before .before .before .before .before .loop .inv .2) (asked .room);
+      },
+    )
+
+opposed-same-length-2 : (t : ℕ) → opposed-lts.Need-same-length-2 (opposed-calls t) (opposed-at t) opposed.Post opposed-Inv-loop opposed-μ-loop
+opposed-same-length-2 t c = c .before .before .before .keeps .kept .1 .1 .1 .1 .1 .0 ∙ c .before .before .before .before .before .before .before .before .before .before .before .before .before .before .before .before .before .loop .inv .2
+
+opposed-returns-3 : (t : ℕ) → opposed-lts.Need-returns-3 (opposed-calls t) (opposed-at t) opposed.Post opposed-Inv-loop opposed-μ-loop
+opposed-returns-3 t c = record {
+  answers = λ e. pair-opposed _ _ _ _ (c .before .before .before .before .before .pair .ensures) (c .before .before .before .before .before .before .before .exceeds .ensures (c .before .before .before .before .before .before .if3 .taken)) (rw (not-true (c .before .before .before .keeps .result) (c .if4 .taken)) at (c .before .before .before .keeps .ensures .answers));
+  same = c .before .before .before .keeps .ensures .same ∙ c .before .before .before .before .before .before .before .before .before .before .before .before .before .before .before .before .before .loop .inv .3;
+}
+
+opposed-loop-less : (t : ℕ) → opposed-lts.Need-loop-less (opposed-calls t) (opposed-at t) opposed.Post opposed-Inv-loop opposed-μ-loop
+opposed-loop-less t c = rw (c .before .before .before .before .before .before .before .before .without .ensures) (omega (arith, count-removed (member (c .before .before .before .before .before .before .before .before .before .before .before .before .before .before .before .before .before .loop .limits)) _ (second-in t (c .before .before .before .before .before .before .before .before .before .before)) (second-below t (c .before .before .before .before .before .before .before .before .before .before))))
+
+opposed-loop-again : (t : ℕ) → opposed-lts.Need-loop-again (opposed-calls t) (opposed-at t) opposed.Post opposed-Inv-loop opposed-μ-loop
+opposed-loop-again t c = (
+  c .before .before .before .before .before .before .before .before .before .before .before .before .before .before .before .before .before .loop .inv .0,
+  rw (c .before .before .before .before .before .before .before .before .without .ensures) (within-removed _ (c .before .before .before .before .before .before .before .before .before .before .before .before .before .before .before .before .before .loop .inv .1)),
+  c .before .before .before .keeps .kept .1 .1 .1 .1 .1 .0 ∙ c .before .before .before .before .before .before .before .before .before .before .before .before .before .before .before .before .before .loop .inv .2,
+  c .before .before .before .keeps .ensures .same ∙ c .before .before .before .before .before .before .before .before .before .before .before .before .before .before .before .before .before .loop .inv .3,
+)
+
+opposed-loop-less-2 : (t : ℕ) → opposed-lts.Need-loop-less-2 (opposed-calls t) (opposed-at t) opposed.Post opposed-Inv-loop opposed-μ-loop
+opposed-loop-less-2 t c = rw (c .before .before .without .ensures) (omega (arith, count-removed (member (c .before .before .before .before .before .before .before .before .before .before .before .loop .limits)) _ (second-in t (c .before .before .before .before)) (second-below t (c .before .before .before .before))))
+
+opposed-loop-again-2 : (t : ℕ) → opposed-lts.Need-loop-again-2 (opposed-calls t) (opposed-at t) opposed.Post opposed-Inv-loop opposed-μ-loop
+opposed-loop-again-2 t c = (c .before .before .before .before .before .before .before .before .before .before .before .loop .inv .0, rw (c .before .before .without .ensures) (within-removed _ (c .before .before .before .before .before .before .before .before .before .before .before .loop .inv .1)), c .before .before .before .before .before .before .before .before .before .before .before .loop .inv .2, c .before .before .before .before .before .before .before .before .before .before .before .loop .inv .3)
+
+opposed-enum-told-2 : (t : ℕ) → opposed-lts.Need-enum-told-2 (opposed-calls t) (opposed-at t) opposed.Post opposed-Inv-loop opposed-μ-loop
+opposed-enum-told-2 t c = search needs
+
+opposed-without-requires-2 : (t : ℕ) → opposed-lts.Need-without-requires-2 (opposed-calls t) (opposed-at t) opposed.Post opposed-Inv-loop opposed-μ-loop
+opposed-without-requires-2 t c κs = search needs
+
+opposed-loop-less-3 : (t : ℕ) → opposed-lts.Need-loop-less-3 (opposed-calls t) (opposed-at t) opposed.Post opposed-Inv-loop opposed-μ-loop
+opposed-loop-less-3 t c =
+    rw (c .without2 .ensures)
+    (omega (arith, count-removed (member (c .before .before .before .before .before .before .before .before .loop .needs)) _ (first-in t (c .before .before .before .before .before)) (first-below t (c .before .before .before .before .before)), count-le (member (c .before .before .before .before .before .before .before .before .before .before .before .before .before .before .before .before .args .all)) (length (c .before .before .before .before .before .before .before .before .before .before .before .before .before .before .before .before .args .entries .now)), c .before .before .before .before .before .before .before .before .before .before .before .before .before .before .before .before .pre .1 .promising .few))
+
+opposed-loop-again-3 : (t : ℕ) → opposed-lts.Need-loop-again-3 (opposed-calls t) (opposed-at t) opposed.Post opposed-Inv-loop opposed-μ-loop
+opposed-loop-again-3 t c = (rw (c .without2 .ensures) (within-removed _ (c .before .before .before .before .before .before .before .before .loop .inv .0)), λ i h. h, c .before .before .before .before .before .before .before .before .loop .inv .2, c .before .before .before .before .before .before .before .before .loop .inv .3)
 
 abbrev relations-Inv-loop : relations-lts.InvT-loop
 relations-Inv-loop entries w depth level work₀ rest₀ work rest = Solving (wideAt entries) w (member rest) × (length work ≡ length work₀)
@@ -369,14 +510,10 @@ keeps-to-do t c =
 solve-take-requires : (t : ℕ) → solve-lts.Need-take-requires (solve-calls t) (solve-at t) solve.Post solve-Inv-loop solve-μ-loop
 solve-take-requires t c κs = (told t (c .before .before .before .before .before .before .before .before) .0 .at .within, behind-keeps t (c .before .before .before .before) .space)
 
--- behind a set that can be kept, and behind one that cannot
+-- behind a set that can be kept
 behind-take : (t : ℕ) (c : solve-lts.After-take (solve-calls t) (solve-at t) solve.Post solve-Inv-loop solve-μ-loop)
     → Nearer (problemOf (c .before .before .before .before .before .before .before .before .before .before .before .before .before .before .before .before .before .before .before .args .entries .now) (c .before .before .before .before .before .before .before .before .before .before .before .before .before .before .before .before .before .before .before .args .q)) (c .before .before .before .before .before .before .before .before .before .before .before .before .before .before .before .before .before .before .before .args .all) (c .take .last .0) (toDo (c .before .before .before .before .before .keeps .last .1 .1 .1 .1 .1 .0) (c .before .before .before .before .before .before .before .before .before .asked .given .0 .0)) (c .take .result)
 behind-take t c = c .take .ensures (problemOf (c .before .before .before .before .before .before .before .before .before .before .before .before .before .before .before .before .before .before .before .args .entries .now) (c .before .before .before .before .before .before .before .before .before .before .before .before .before .before .before .before .before .before .before .args .q)) (behind-keeps t (c .before .before .before .before .before)) (rw (c .before .before .if1 .taken) at (c .before .before .before .before .before .keeps .ensures .answers))
-
-behind-skip : (t : ℕ) (c : solve-lts.After-skip (solve-calls t) (solve-at t) solve.Post solve-Inv-loop solve-μ-loop)
-    → Nearer (problemOf (c .before .before .before .before .before .before .before .before .before .before .before .before .before .before .before .before .before .before .args .entries .now) (c .before .before .before .before .before .before .before .before .before .before .before .before .before .before .before .before .before .before .args .q)) (c .before .before .before .before .before .before .before .before .before .before .before .before .before .before .before .before .before .before .args .all) (c .before .before .before .before .keeps .last .1 .1 .1 .1 .1 .0) (toDo (c .before .before .before .before .keeps .last .1 .1 .1 .1 .1 .0) (c .before .before .before .before .before .before .before .before .asked .given .0 .0)) (c .skip .result)
-behind-skip t c = c .skip .ensures (problemOf (c .before .before .before .before .before .before .before .before .before .before .before .before .before .before .before .before .before .before .args .entries .now) (c .before .before .before .before .before .before .before .before .before .before .before .before .before .before .before .before .before .before .args .q)) (c .before .before .before .before .keeps .last .1 .1 .1 .1 .1 .0) (c .before .before .before .before .before .before .before .before .asked .given .0 .1 .0) (behind-keeps t (c .before .before .before .before)) (rw (c .before .if1 .left) at (c .before .before .before .before .keeps .ensures .answers))
 
 solve-loop-less : (t : ℕ) → solve-lts.Need-loop-less (solve-calls t) (solve-at t) solve.Post solve-Inv-loop solve-μ-loop
 solve-loop-less t c = omega (arith, behind-take t (c .before .before) .less, keeps-to-do t (c .before .before .before .before .before .before .before))
@@ -384,14 +521,50 @@ solve-loop-less t c = omega (arith, behind-take t (c .before .before) .less, kee
 solve-loop-again : (t : ℕ) → solve-lts.Need-loop-again (solve-calls t) (solve-at t) solve.Post solve-Inv-loop solve-μ-loop
 solve-loop-again t c = (behind-take t (c .before .before) .at, c .before .before .take .kept .0 ∙ c .before .before .before .before .before .before .before .keeps .kept .1 .1 .1 .1 .1 .0 ∙ c .before .before .before .before .before .before .before .before .before .before .before .before .before .before .before .search .kept .1 .1 .1 .0 ∙ c .before .before .before .before .before .before .before .before .before .before .before .before .before .before .before .before .before .loop .inv .1)
 
+solve-opposed-requires : (t : ℕ) → solve-lts.Need-opposed-requires (solve-calls t) (solve-at t) solve.Post solve-Inv-loop solve-μ-loop
+solve-opposed-requires t c κs =
+    let start = c .before .before .before .before .before .before .before .before .before .before .before .before .before .before .before .before .before .before in
+    let given = start .pre .1 in (
+      omega (arith, start .pre .0),
+      record { promising = given .promising; deep = given .deep; all-asking = given .all-asking; room = room-kept (c .before .before .before .before .keeps .kept .1 .1 .1 .1 .1 .0) (search-room t (c .before .before .before .before .before .before .before .before .before .before .before .before)) },
+    )
+
+solve-same-length-3 : (t : ℕ) → solve-lts.Need-same-length-3 (solve-calls t) (solve-at t) solve.Post solve-Inv-loop solve-μ-loop
+solve-same-length-3 t c = c .before .before .before .opposed .kept .1 .1 .1 .1 .1 .1 .0 ∙ c .before .before .before .before .before .before .before .before .keeps .kept .1 .1 .1 .1 .1 .0 ∙ c .before .before .before .before .before .before .before .before .before .before .before .before .before .before .before .before .search .kept .1 .1 .1 .0 ∙ c .before .before .before .before .before .before .before .before .before .before .before .before .before .before .before .before .before .before .loop .inv .1
+
+solve-returns-3 : (t : ℕ) → solve-lts.Need-returns-3 (solve-calls t) (solve-at t) solve.Post solve-Inv-loop solve-μ-loop
+solve-returns-3 t c = c .before .before .before .opposed .ensures .answers (c .if2 .taken)
+
+-- the set is asked still where no two were found to exclude each other, and there is no more to be done
+behind-opposed : (t : ℕ) (c : solve-lts.After-opposed (solve-calls t) (solve-at t) solve.Post solve-Inv-loop solve-μ-loop)
+    → Asked (problemOf (c .before .before .before .before .before .before .before .before .before .before .before .before .before .before .before .before .before .before .before .args .entries .now) (c .before .before .before .before .before .before .before .before .before .before .before .before .before .before .before .before .before .before .before .args .q)) (c .before .before .before .before .before .before .before .before .before .before .before .before .before .before .before .before .before .before .before .args .all) (c .opposed .last .1 .1 .1 .1 .1 .1 .0) (c .before .before .before .before .before .before .before .before .before .asked .given .0 .0) (c .before .before .before .before .before .before .before .before .before .asked .given .0 .1 .0)
+behind-opposed t c =
+    still-asked (problemOf (c .before .before .before .before .before .before .before .before .before .before .before .before .before .before .before .before .before .before .before .args .entries .now) (c .before .before .before .before .before .before .before .before .before .before .before .before .before .before .before .before .before .before .before .args .q)) (c .before .before .before .before .before .before .before .before .before .before .before .before .before .before .before .before .before .before .before .args .all) (c .before .before .before .before .before .keeps .last .1 .1 .1 .1 .1 .0) (c .opposed .last .1 .1 .1 .1 .1 .1 .0) (c .before .before .before .before .before .before .before .before .before .asked .given .0 .0) (c .before .before .before .before .before .before .before .before .before .asked .given .0 .1 .0)
+    (behind-keeps t (c .before .before .before .before .before)) (room-kept (c .before .before .before .before .before .keeps .kept .1 .1 .1 .1 .1 .0) (search-room t (c .before .before .before .before .before .before .before .before .before .before .before .before .before))) (c .opposed .kept .1 .1 .1 .1 .1 .1 .0) (c .opposed .ensures .same)
+
+opposed-to-do : (t : ℕ) (c : solve-lts.After-opposed (solve-calls t) (solve-at t) solve.Post solve-Inv-loop solve-μ-loop)
+    → toDo (c .opposed .last .1 .1 .1 .1 .1 .1 .0) (c .before .before .before .before .before .before .before .before .before .asked .given .0 .0) ≤ toDo (c .before .before .before .before .before .before .before .before .before .before .before .before .before .before .before .loop .work) (c .before .before .before .before .before .before .before .before .before .before .before .before .before .before .before .loop .at)
+opposed-to-do t c =
+    omega (
+      arith,
+      keeps-to-do t (c .before .before .before .before .before),
+      still-to-do (problemOf (c .before .before .before .before .before .before .before .before .before .before .before .before .before .before .before .before .before .before .before .args .entries .now) (c .before .before .before .before .before .before .before .before .before .before .before .before .before .before .before .before .before .before .before .args .q)) (c .before .before .before .before .before .before .before .before .before .before .before .before .before .before .before .before .before .before .before .args .all) (c .before .before .before .before .before .keeps .last .1 .1 .1 .1 .1 .0) (c .opposed .last .1 .1 .1 .1 .1 .1 .0) (c .before .before .before .before .before .before .before .before .before .asked .given .0 .0) (c .before .before .before .before .before .before .before .before .before .asked .given .0 .1 .0)
+          (behind-keeps t (c .before .before .before .before .before)) (room-kept (c .before .before .before .before .before .keeps .kept .1 .1 .1 .1 .1 .0) (search-room t (c .before .before .before .before .before .before .before .before .before .before .before .before .before))) (c .opposed .kept .1 .1 .1 .1 .1 .1 .0) (c .opposed .ensures .same),
+    )
+
 solve-skip-requires : (t : ℕ) → solve-lts.Need-skip-requires (solve-calls t) (solve-at t) solve.Post solve-Inv-loop solve-μ-loop
-solve-skip-requires t c κs = told t (c .before .before .before .before .before .before .before) .0 .at .within
+solve-skip-requires t c κs = told t (c .before .before .before .before .before .before .before .before .before .before .before .before) .0 .at .within
+
+-- behind a set that cannot be kept
+behind-skip : (t : ℕ) (c : solve-lts.After-skip (solve-calls t) (solve-at t) solve.Post solve-Inv-loop solve-μ-loop)
+    → Nearer (problemOf (c .before .before .before .before .before .before .before .before .before .before .before .before .before .before .before .before .before .before .before .before .before .before .before .args .entries .now) (c .before .before .before .before .before .before .before .before .before .before .before .before .before .before .before .before .before .before .before .before .before .before .before .args .q)) (c .before .before .before .before .before .before .before .before .before .before .before .before .before .before .before .before .before .before .before .before .before .before .before .args .all) (c .before .before .before .before .opposed .last .1 .1 .1 .1 .1 .1 .0) (toDo (c .before .before .before .before .opposed .last .1 .1 .1 .1 .1 .1 .0) (c .before .before .before .before .before .before .before .before .before .before .before .before .before .asked .given .0 .0)) (c .skip .result)
+behind-skip t c = c .skip .ensures (problemOf (c .before .before .before .before .before .before .before .before .before .before .before .before .before .before .before .before .before .before .before .before .before .before .before .args .entries .now) (c .before .before .before .before .before .before .before .before .before .before .before .before .before .before .before .before .before .before .before .before .before .before .before .args .q)) (c .before .before .before .before .opposed .last .1 .1 .1 .1 .1 .1 .0) (c .before .before .before .before .before .before .before .before .before .before .before .before .before .asked .given .0 .1 .0) (behind-opposed t (c .before .before .before .before)) (rw (c .before .before .before .before .before .before .if1 .left) at (c .before .before .before .before .before .before .before .before .before .keeps .ensures .answers))
 
 solve-loop-less-2 : (t : ℕ) → solve-lts.Need-loop-less-2 (solve-calls t) (solve-at t) solve.Post solve-Inv-loop solve-μ-loop
-solve-loop-less-2 t c = omega (arith, behind-skip t c .less, keeps-to-do t (c .before .before .before .before))
+solve-loop-less-2 t c = omega (arith, behind-skip t c .less, opposed-to-do t (c .before .before .before .before))
 
 solve-loop-again-2 : (t : ℕ) → solve-lts.Need-loop-again-2 (solve-calls t) (solve-at t) solve.Post solve-Inv-loop solve-μ-loop
-solve-loop-again-2 t c = (behind-skip t c .at, c .before .before .before .before .keeps .kept .1 .1 .1 .1 .1 .0 ∙ c .before .before .before .before .before .before .before .before .before .before .before .before .search .kept .1 .1 .1 .0 ∙ c .before .before .before .before .before .before .before .before .before .before .before .before .before .before .loop .inv .1)
+solve-loop-again-2 t c = (behind-skip t c .at, c .before .before .before .before .opposed .kept .1 .1 .1 .1 .1 .1 .0 ∙ c .before .before .before .before .before .before .before .before .before .keeps .kept .1 .1 .1 .1 .1 .0 ∙ c .before .before .before .before .before .before .before .before .before .before .before .before .before .before .before .before .before .search .kept .1 .1 .1 .0 ∙ c .before .before .before .before .before .before .before .before .before .before .before .before .before .before .before .before .before .before .before .loop .inv .1)
 
 world-highest-requires : (t : ℕ) → world-lts.Need-highest-requires (world-calls t) (world-at t) world.Post
 world-highest-requires t c κs = search needs
@@ -448,9 +621,9 @@ world-returns-3 t c =
     let asked = c .before .before .before .before .before .before .before .before .before .before .before .before .before .before .before .before .pre .1 in
     world-answer (ready-wider (asked .ready) (asked .small)) (top t (c .before .before .before .before .before .before .before .before .before .before)) (rw (c .before .before .before .before .if1 .left) at (c .before .before .before .before .before .before .before .case-holds .ensures)) (c .before .before .case-holds2 .result) (c .before .before .case-holds2 .ensures)
 
-pub +case-holds+keeps+relations+solve+world-spec : {M : Type 1} → statement M
-+case-holds+keeps+relations+solve+world-spec =
-    close μ-case-holds μ-keeps μ-relations μ-solve μ-world (λ t. case-holds-lts.spec (case-holds-calls t)
+pub +case-holds+keeps+opposed+relations+solve+world-spec : {M : Type 1} → statement M
++case-holds+keeps+opposed+relations+solve+world-spec =
+    close μ-case-holds μ-keeps μ-opposed μ-relations μ-solve μ-world (λ t. case-holds-lts.spec (case-holds-calls t)
     (case-holds-at t)
     case-holds.Post
     (case-holds-branch-requires t)
@@ -476,6 +649,37 @@ pub +case-holds+keeps+relations+solve+world-spec : {M : Type 1} → statement M
     (keeps-same-length t)
     (keeps-returns t)
     (keeps-returns-2 t))
+    (λ t. opposed-lts.spec (opposed-calls t)
+    (opposed-at t)
+    opposed.Post
+    opposed-Inv-loop
+    opposed-μ-loop
+    (opposed-code-requires t)
+    (opposed-code-requires-2 t)
+    (opposed-len-requires t)
+    (opposed-returns t)
+    (opposed-loop-holds t)
+    (opposed-highest-requires t)
+    (opposed-enum-known-i t)
+    (opposed-enum-told t)
+    (opposed-same-length t)
+    (opposed-returns-2 t)
+    (opposed-highest-requires-2 t)
+    (opposed-enum-known-j t)
+    (opposed-without-requires t)
+    (opposed-exceeds-requires t)
+    (opposed-pair-requires t)
+    (opposed-keeps-requires t)
+    (opposed-same-length-2 t)
+    (opposed-returns-3 t)
+    (opposed-loop-less t)
+    (opposed-loop-again t)
+    (opposed-loop-less-2 t)
+    (opposed-loop-again-2 t)
+    (opposed-enum-told-2 t)
+    (opposed-without-requires-2 t)
+    (opposed-loop-less-3 t)
+    (opposed-loop-again-3 t))
     (λ t. relations-lts.spec (relations-calls t)
     (relations-at t)
     relations.Post
@@ -515,6 +719,9 @@ pub +case-holds+keeps+relations+solve+world-spec : {M : Type 1} → statement M
     (solve-take-requires t)
     (solve-loop-less t)
     (solve-loop-again t)
+    (solve-opposed-requires t)
+    (solve-same-length-3 t)
+    (solve-returns-3 t)
     (solve-skip-requires t)
     (solve-loop-less-2 t)
     (solve-loop-again-2 t))
