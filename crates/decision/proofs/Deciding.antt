@@ -17,7 +17,7 @@ use Rattle.packed.proofs.Filling.{fill-below, fill-behind}
 use Rattle.table.specs.Entry.{entryAt, size}
 use Rattle.table.specs.Formulas.{depthAt}
 use Rattle.table.specs.Check.{tableVerdict, lengthFaulty, entriesVerdict}
-use Rattle.decision.specs.Decide.{Cleared}
+use Rattle.decision.specs.Call.{Cleared}
 
 -- an accepted table
 module _ (bytes : List ℕ) (ok : tableVerdict bytes ≡ Accepted) where

@@ -1,9 +1,9 @@
 -- The decision: is an entry of a table possible. Document 01, "Possible, and the mark".
 use mathlib.Core.Path.{_≡_}
 use mathlib.Core.List.{List}
-use Prim.Native.Nat.{ℕ, _<_, _≤_}
+use Prim.Native.Nat.{ℕ}
 use lib.Dec.{leb, ltb}
-use lib.ListN.{length, getD}
+use lib.ListN.{length}
 use Rattle.faults.specs.declared.Fault.the-variants.{EntryNumber, Space}
 use Rattle.faults.specs.declared.Verdict.{Verdict}
 use Rattle.faults.specs.declared.Verdict.the-variants.{Accepted, Refused}
@@ -14,6 +14,7 @@ use Rattle.table.specs.Formulas.{formulaAt, depthAt}
 use Rattle.table.specs.Space.{tableWork}
 use Rattle.table.specs.Check.{tableVerdict}
 use Rattle.decision.specs.declared.Decision.{Decision}
+use Rattle.decision.specs.Call.{Cleared}
 
 -- document 01's W for the decision of entry e
 abbrev pub entryWork : List ℕ → ℕ → ℕ
@@ -23,12 +24,6 @@ entryWork bytes e = tableWork bytes (depthAt (entryAt bytes) e)
 abbrev pub decideVerdict : List ℕ → ℕ → ℕ → Verdict
 decideVerdict bytes e words =
     andThen (tableVerdict bytes) (andThen (refuseIf (leb (size bytes) e) EntryNumber) (refuseIf (ltb words (entryWork bytes e)) Space))
-
--- the first n words are 0, the others are as before
-pub record Cleared (n : ℕ) (before after : List ℕ) : Type 0 where
-  pub same-length : length after ≡ length before
-  pub zero : (i : ℕ) → i < n → getD after i 0 ≡ 0
-  pub rest : (i : ℕ) → n ≤ i → getD after i 0 ≡ getD before i 0
 
 -- what a decision answers, and what the lent words are then
 abbrev pub DecisionIs : List ℕ → ℕ → List ℕ → List ℕ → Decision → Type 0

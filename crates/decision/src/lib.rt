@@ -8,7 +8,17 @@ ghost use Rattle.faults.specs.declared.Verdict.the-variants.{Accepted};
 ghost use Rattle.table.specs.Check.{tableVerdict};
 ghost use Rattle.table.specs.Entry.{entryAt, size};
 ghost use Rattle.table.specs.Formulas.{formulaAt, depthAt};
-ghost use Rattle.decision.specs.Decide.{decideVerdict, entryWork, Cleared, DecisionIs};
+ghost use Rattle.table.specs.Space.{tableWork};
+ghost use Rattle.decision.specs.Call.{Cleared};
+ghost use Rattle.decision.specs.Decide.{entryWork, DecisionIs};
+
+pub mod ask;
+pub mod call;
+
+use ask::ask;
+use call::checked;
+use call::clear;
+use call::pair_depth;
 use faults::Fault;
 use faults::Verdict;
 use sets::Set;
@@ -20,58 +30,15 @@ pub enum Decision {
     Refused(Fault),
 }
 
-// Writes 0 into the first n words.
-fn clear(words: &mut [u64], n: usize)
-    requires { ⌜ n ≤ length (now words) ⌝ }
-    ensures { λ r. ⌜ Cleared n (now (words .entry)) (now (words .exit)) ⌝ }
-{
-    let mut i = 0;
-    while i < n {
-        words[i] = 0;
-        i += 1;
-    }
-}
-
-// The depth of entry e.
-fn entry_depth(table: &[u8], e: usize) -> usize
-    requires { ⌜ (tableVerdict (now table) ≡ Accepted) × (e < size (now table)) ⌝ }
-    ensures { λ r. ⌜ r ≡ depthAt (entryAt (now (table .entry))) e ⌝ }
-{
-    let n = table.len() / 4;
-    let depth = table::depth::depths(table, n);
-    depth[e] as usize
-}
-
-// The first fault of a call with this many lent words.
-fn checked(table: &[u8], e: usize, words: usize) -> Verdict
-    ensures { λ r. ⌜ r ≡ decideVerdict (now (table .entry)) e words ⌝ }
-{
-    let of_table = table::check::check(table);
-    let Verdict::Accepted = of_table else {
-        return of_table;
-    };
-    if table.len() / 4 <= e {
-        return Verdict::Refused(Fault::EntryNumber);
-    }
-    let depth = entry_depth(table, e);
-    if words < table::space::work_words(table, depth) {
-        return Verdict::Refused(Fault::Space);
-    }
-    Verdict::Accepted
-}
-
-// Whether entry e is possible, worked in the words, which are W or more.
-fn possible(table: &[u8], e: usize, words: &mut [u64]) -> bool
-    requires { ⌜ (tableVerdict (now table) ≡ Accepted) × (e < size (now table)) × (entryWork (now table) e ≤ length (now words)) ⌝ }
+// Whether entry e, of this depth, is possible, worked in the words, which are W or more.
+fn possible(table: &[u8], e: usize, depth: usize, words: &mut [u64]) -> bool
+    requires { ⌜ (tableVerdict (now table) ≡ Accepted) × (e < size (now table)) × (depthAt (entryAt (now table)) e ≡ depth)
+        × (tableWork (now table) depth ≤ length (now words)) ⌝ }
     ensures { λ r. ⌜ Answers r (Satisfiable (formulaAt (entryAt (now (table .entry))) e)) ⌝ }
 {
-    let n = table.len() / 4;
-    let depth = entry_depth(table, e);
-    let level = table::space::work_words(table, 0) / 2;
     let yes = Set::empty().with(e);
     let no = Set::empty();
-    let entries = wide::widen(table);
-    satisfy::ask::satisfiable(&entries[..n], yes, no, depth, level, words)
+    ask(table, yes, no, depth, words)
 }
 
 // The same, and the words worked in are cleared.
@@ -80,9 +47,9 @@ fn answer(table: &[u8], e: usize, words: &mut [u64]) -> bool
     ensures { λ r. ⌜ Answers r (Satisfiable (formulaAt (entryAt (now (table .entry))) e))
         × Cleared (entryWork (now (table .entry)) e) (now (words .entry)) (now (words .exit)) ⌝ }
 {
-    let depth = entry_depth(table, e);
+    let depth = pair_depth(table, e, e);
     let needed = table::space::work_words(table, depth);
-    let found = possible(table, e, &mut words[..needed]);
+    let found = possible(table, e, depth, &mut words[..needed]);
     clear(words, needed);
     found
 }
@@ -91,7 +58,7 @@ fn answer(table: &[u8], e: usize, words: &mut [u64]) -> bool
 pub fn decide(table: &[u8], e: usize, words: &mut [u64]) -> Decision
     ensures { λ r. ⌜ DecisionIs (now (table .entry)) e (now (words .entry)) (now (words .exit)) r ⌝ }
 {
-    match checked(table, e, words.len()) {
+    match checked(table, e, e, words.len()) {
         Verdict::Refused(f) => Decision::Refused(f),
         Verdict::Accepted => {
             if answer(table, e, words) {

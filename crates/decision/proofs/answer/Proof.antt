@@ -6,20 +6,26 @@ use borrow.Author.Needs.{needs}
 use Rattle.table.specs.Space.{tableWork}
 use Rattle.decision.specs.Decide.{entryWork}
 use Rattle.decision.proofs.Deciding.{accepted-small, accepted-shallow, cleared-over}
+use Rattle.decision.proofs.Pair.{one-depth}
+use Rattle.table.specs.Entry.{entryAt}
+use Rattle.table.specs.Formulas.{depthAt}
 use Rattle.decision.proofs.answer.Statement.{statement}
 use Rattle.decision.proofs.answer.Tie as tie
 
-entry-depth-requires : tie.Need-entry-depth-requires
-entry-depth-requires c κs = let (ok, inside, enough) = c .before .before .pre in (ok, inside)
+pair-depth-requires : tie.Need-pair-depth-requires
+pair-depth-requires c κs = let (ok, inside, enough) = c .before .before .pre in (ok, inside, inside)
+
+depth-is : (c : tie.After-pair-depth) → c .pair-depth .result ≡ depthAt (entryAt (c .before .before .before .args .table .now)) (c .before .before .before .args .e)
+depth-is c = c .pair-depth .ensures ∙ one-depth _ _
 
 work-words-requires : tie.Need-work-words-requires
 work-words-requires c κs =
     let (ok, inside, enough) = c .before .before .before .pre in
-    (accepted-small _ ok, rw (c .entry-depth .ensures) (accepted-shallow _ ok _ inside))
+    (accepted-small _ ok, rw (depth-is c) (accepted-shallow _ ok _ inside))
 
 -- what is needed of words
 needed : (c : tie.After-work-words) → c .work-words .result ≡ entryWork (c .before .before .before .before .args .table .now) (c .before .before .before .before .args .e)
-needed c = c .work-words .ensures ∙ ap (tableWork (c .before .before .before .before .args .table .now)) (c .before .entry-depth .ensures)
+needed c = c .work-words .ensures ∙ ap (tableWork (c .before .before .before .before .args .table .now)) (depth-is (c .before))
 
 slice-relend-prefix-possible : tie.Need-slice-relend-prefix-possible
 slice-relend-prefix-possible c = let (ok, inside, enough) = c .before .before .before .before .pre in rw (needed c) enough
@@ -30,21 +36,21 @@ slice-aggregate-possible c = sym (length-take-le _ (c .before .before .before .b
 possible-requires : tie.Need-possible-requires
 possible-requires c κs =
     let (ok, inside, enough) = c .before .before .before .before .before .pre in
-    (ok, inside, omega (arith, needed (c .before), slice-aggregate-possible c))
+    (ok, inside, sym (depth-is (c .before .before)), omega (arith, c .before .work-words .ensures, slice-aggregate-possible c))
 
 clear-requires : tie.Need-clear-requires
 clear-requires c κs =
-    omega (arith, slice-relend-prefix-possible (c .before .before .before .before .before), length-front (c .before .before .before .before .before .before .before .before .before .args .words .now) (c .before .before .before .possible .last .1 .1 .0) (c .before .before .before .before .before .work-words .result) (c .before .before .before .possible .kept .1 .1 .0))
+    omega (arith, slice-relend-prefix-possible (c .before .before .before .before .before), length-front (c .before .before .before .before .before .before .before .before .before .args .words .now) (c .before .before .before .possible .last .1 .1 .1 .0) (c .before .before .before .before .before .work-words .result) (c .before .before .before .possible .kept .1 .1 .1 .0))
 
 returns : tie.Need-returns
 returns c =
-    (c .before .before .before .before .before .before .possible .ensures, rw (sym (needed (c .before .before .before .before .before .before .before .before))) (cleared-over (c .before .before .before .before .before .before .before .before .work-words .result) (c .before .before .before .before .before .before .possible .last .1 .1 .0) (c .before .before .before .before .before .before .before .before .before .before .before .before .args .words .now) (c .before .before .before .before .before .before .possible .kept .1 .1 .0) (slice-relend-prefix-possible (c .before .before .before .before .before .before .before .before)) (c .before .before .clear .ensures)))
+    (c .before .before .before .before .before .before .possible .ensures, rw (sym (needed (c .before .before .before .before .before .before .before .before))) (cleared-over (c .before .before .before .before .before .before .before .before .work-words .result) (c .before .before .before .before .before .before .possible .last .1 .1 .1 .0) (c .before .before .before .before .before .before .before .before .before .before .before .before .args .words .now) (c .before .before .before .before .before .before .possible .kept .1 .1 .1 .0) (slice-relend-prefix-possible (c .before .before .before .before .before .before .before .before)) (c .before .before .clear .ensures)))
 
 pub answer-spec : {M : Type 1} → statement M
 answer-spec =
     tie.close
     (tie.spec
-    entry-depth-requires
+    pair-depth-requires
     work-words-requires
     slice-relend-prefix-possible
     slice-aggregate-possible

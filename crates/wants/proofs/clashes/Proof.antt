@@ -8,11 +8,6 @@ use Rattle.wants.proofs.Reading.{kind-read, kind-not-read}
 use Rattle.wants.proofs.AtOnce.{itself-clash, true-clash, false-clash, fact-clash, least-clash, no-clash}
 use Rattle.wants.proofs.clashes.Statement.{statement}
 use Rattle.wants.proofs.clashes.Tie as tie
-use Rattle.wants.proofs.clashes.Reads as reads
-use Rattle.wants.proofs.clashes.Lts as lts
-use Rattle.sets.proofs.Set.contains.Reads as contains-reads
-use Rattle.wants.proofs.has_fact.Reads as has-fact-reads
-use Rattle.wants.proofs.wanted.Reads as wanted-reads
 
 returns : tie.Need-returns
 returns c = itself-clash (c .before .before .before .before .pre) _ (cc)

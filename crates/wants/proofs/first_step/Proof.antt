@@ -6,13 +6,6 @@ use Rattle.wants.proofs.Reading.{kind-read, kind-not-read, first-read, 
 use Rattle.wants.proofs.Steps.{known-taken, rest-taken}
 use Rattle.wants.proofs.first_step.Statement.{statement}
 use Rattle.wants.proofs.first_step.Tie as tie
-use Rattle.wants.proofs.first_step.Reads as reads
-use Rattle.wants.proofs.first_step.Lts as lts
-use Rattle.sets.proofs.Set.contains.Reads as contains-reads
-use Rattle.wants.proofs.both_kind.Reads as both-kind-reads
-use Rattle.wants.proofs.clashes.Reads as clashes-reads
-use Rattle.wants.proofs.put.Reads as put-reads
-use Rattle.wants.proofs.wanted.Reads as wanted-reads
 
 returns : tie.Need-returns
 returns c = known-taken (c .before .before .before .before .pre .settled) (cc)

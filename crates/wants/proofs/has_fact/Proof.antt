@@ -12,11 +12,6 @@ use Rattle.wants.specs.Step.{isFact}
 use Rattle.wants.proofs.Members.{Left, left-all, left-without, count-removed}
 use Rattle.wants.proofs.has_fact.Statement.{statement}
 use Rattle.wants.proofs.has_fact.Tie as tie
-use Rattle.wants.proofs.has_fact.Reads as reads
-use Rattle.wants.proofs.has_fact.Lts as lts
-use Rattle.sets.proofs.Set.highest.Reads as highest-reads
-use Rattle.sets.proofs.Set.without.Reads as without-reads
-use Rattle.wants.proofs.is_fact.Reads as is-fact-reads
 
 abbrev Inv-loop : tie.InvT-loop
 Inv-loop entries name rest₀ rest = Left (member rest₀) (λ i. isFact (wideAt entries i) name) (member rest)

@@ -2,9 +2,6 @@
 use borrow.Author.Needs.{needs}
 use Rattle.wants.proofs.put_after.Statement.{statement}
 use Rattle.wants.proofs.put_after.Tie as tie
-use Rattle.wants.proofs.put_after.Reads as reads
-use Rattle.wants.proofs.put_after.Lts as lts
-use Rattle.wants.proofs.put.Reads as put-reads
 
 pub put-after-spec : {M : Type 1} → statement M
 put-after-spec =

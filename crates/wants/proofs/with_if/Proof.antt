@@ -2,9 +2,6 @@
 use borrow.Author.Needs.{needs}
 use Rattle.wants.proofs.with_if.Statement.{statement}
 use Rattle.wants.proofs.with_if.Tie as tie
-use Rattle.wants.proofs.with_if.Reads as reads
-use Rattle.wants.proofs.with_if.Lts as lts
-use Rattle.sets.proofs.Set.with.Reads as with-reads
 
 returns : tie.Need-returns
 returns c = rw (c .before .if1 .taken) (c .with .ensures)

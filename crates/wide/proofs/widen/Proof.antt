@@ -10,10 +10,6 @@ use Rattle.wide.specs.Wide.{Widened}
 use Rattle.wide.proofs.Widening.{packed-fits, widened-none, widened-next}
 use Rattle.wide.proofs.widen.Statement.{statement}
 use Rattle.wide.proofs.widen.Tie as tie
-use Rattle.wide.proofs.widen.Reads as reads
-use Rattle.wide.proofs.widen.Lts as lts
-use Rattle.table.proofs.entry.entry_at.Reads as entry-at-reads
-use Rattle.wide.proofs.pack.Reads as pack-reads
 
 abbrev Inv-loop : tie.InvT-loop
 Inv-loop table n words₀ i₀ words i = (i ≤ n) × (length words ≡ 64) × Widened table i words

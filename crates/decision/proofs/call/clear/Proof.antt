@@ -4,10 +4,10 @@ use Prim.Native.Nat.{_-_, _≤_}
 use native.Mathlib.Numerals.{add-one}
 use native.Mathlib.Omega.{arith}
 use borrow.Author.Needs.{needs}
-use Rattle.decision.specs.Decide.{Cleared}
+use Rattle.decision.specs.Call.{Cleared}
 use Rattle.decision.proofs.Deciding.{cleared-none, cleared-next}
-use Rattle.decision.proofs.clear.Statement.{statement}
-use Rattle.decision.proofs.clear.Tie as tie
+use Rattle.decision.proofs.call.clear.Statement.{statement}
+use Rattle.decision.proofs.call.clear.Tie as tie
 
 abbrev Inv-loop : tie.InvT-loop
 Inv-loop words₀ n i₀ words i = (i ≤ n) × Cleared i words₀ words

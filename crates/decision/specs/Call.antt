@@ -1,0 +1,30 @@
+-- What the calls on entries of a table share: document 01's W, the order of their faults, and the words at exit.
+use mathlib.Core.Path.{_≡_}
+use mathlib.Core.Bool.{_||_}
+use mathlib.Core.List.{List}
+use Prim.Native.Nat.{ℕ, _<_, _≤_, max}
+use lib.Dec.{leb, ltb}
+use lib.ListN.{length, getD}
+use Rattle.faults.specs.declared.Fault.the-variants.{EntryNumber, Space}
+use Rattle.faults.specs.declared.Verdict.{Verdict}
+use Rattle.faults.specs.Verdict.{refuseIf, andThen}
+use Rattle.table.specs.Entry.{entryAt, size}
+use Rattle.table.specs.Formulas.{depthAt}
+use Rattle.table.specs.Space.{tableWork}
+use Rattle.table.specs.Check.{tableVerdict}
+
+-- document 01's W for a call on the entries a and b, by the greater depth of the two
+abbrev pub pairWork : List ℕ → ℕ → ℕ → ℕ
+pairWork bytes a b = tableWork bytes (max (depthAt (entryAt bytes) a) (depthAt (entryAt bytes) b))
+
+-- the faults of the table, then 9: one of the entries is not there, then 10: the lent words are fewer than W
+abbrev pub pairVerdict : List ℕ → ℕ → ℕ → ℕ → Verdict
+pairVerdict bytes a b words =
+    andThen (tableVerdict bytes)
+    (andThen (refuseIf (leb (size bytes) a || leb (size bytes) b) EntryNumber) (refuseIf (ltb words (pairWork bytes a b)) Space))
+
+-- the first n words are 0, the others are as before
+pub record Cleared (n : ℕ) (before after : List ℕ) : Type 0 where
+  pub same-length : length after ≡ length before
+  pub zero : (i : ℕ) → i < n → getD after i 0 ≡ 0
+  pub rest : (i : ℕ) → n ≤ i → getD after i 0 ≡ getD before i 0
