@@ -4,9 +4,11 @@ ghost use mathlib.Core.Path.{_≡_};
 ghost use lib.ListN.{length};
 ghost use Rattle.table.specs.Check.{tableVerdict};
 ghost use Rattle.decision.specs.Decide.{DecisionIs};
+ghost use Rattle.mark.specs.Mark.{MarkingIs};
 ghost use Rattle.truth_table.specs.Board.{boardVerdict, BoardAfter};
 use decision::Decision;
 use faults::Verdict;
+use mark::Marking;
 
 // Whether a table is accepted; if not, its first fault in document 01's order, a number from 1 to 5.
 pub fn check_table(table: &[u8]) -> Verdict
@@ -32,4 +34,13 @@ pub fn decide(table: &[u8], e: usize, words: &mut [u64]) -> Decision
     ensures { λ r. ⌜ DecisionIs (now (table .entry)) e (now (words .entry)) (now (words .exit)) r ⌝ }
 {
     decision::decide(table, e, words)
+}
+
+// The mark of the answer's entry beside the model's, over all worlds of all finite structures: equal, narrower, wider or
+// crossing. One entry may be both. Works in the first W words, W by the greater depth of the two, and leaves 0 in them; the
+// words behind stay as they were. Refuses as `decide` does, 9 for either entry, and then leaves all words as they were.
+pub fn mark(table: &[u8], model: usize, answer: usize, words: &mut [u64]) -> Marking
+    ensures { λ r. ⌜ MarkingIs (now (table .entry)) model answer (now (words .entry)) (now (words .exit)) r ⌝ }
+{
+    mark::mark_pair(table, model, answer, words)
 }

@@ -1,0 +1,4 @@
+-- the marks, and the mark call
+pub mod Mark
+-- two entries as the mark asks about them; an inner contract
+pub mod Pair
