@@ -64,13 +64,14 @@ fn mark_of(lost: bool, gained: bool) -> Mark
 {
     if lost {
         if gained {
-            Mark::Crossing
-        } else {
-            Mark::Narrower
+            return Mark::Crossing;
         }
-    } else {
-        if gained { Mark::Wider } else { Mark::Equal }
+        return Mark::Narrower;
     }
+    if gained {
+        return Mark::Wider;
+    }
+    Mark::Equal
 }
 
 // The mark of two entries, worked in the words, which are W or more.
