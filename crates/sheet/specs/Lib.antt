@@ -1,0 +1,4 @@
+-- what the input means, and what the sheet says
+pub mod Sheet
+-- the line that is printed
+pub mod Line
