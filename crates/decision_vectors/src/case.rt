@@ -1,9 +1,10 @@
 // A case: calls of `hurnavis::decide`, the answer and every lent word compared with what document 01 gives.
-use crate::description::Description;
 use decision::Decision;
-use libc::STDOUT_FILENO;
+use vectors::description::Description;
 use vectors::entries::Room;
 use vectors::tally::Tally;
+use vectors::words::ONES;
+use vectors::words::compare;
 
 // Document 01's numbers of the answers. A refusal stands 100 above its number, so that it is no answer.
 pub const IMPOSSIBLE: u64 = 0;
@@ -12,41 +13,12 @@ pub const POSSIBLE: u64 = 1;
 
 pub const REFUSED: u64 = 100;
 
-// What the lent words hold before a call.
-const ONES: u64 = 0xffff_ffff_ffff_ffff;
-
 fn number(decision: Decision) -> u64 {
     match decision {
         Decision::Impossible => IMPOSSIBLE,
         Decision::Possible => POSSIBLE,
         Decision::Refused(fault) => REFUSED + fault.number() as u64,
     }
-}
-
-// The first place where the words are not as they are to be: `zeros` words 0, the rest as before. Their number, if there
-// is none.
-fn difference(words: &[u64], zeros: usize) -> usize {
-    let mut i = 0;
-    while i < words.len() {
-        let expected = if i < zeros { 0 } else { ONES };
-        if words[i] != expected {
-            return i;
-        }
-        i += 1;
-    }
-    i
-}
-
-// Counts a case by its words: the first that differs is reported with its place.
-fn compare(tally: Tally, words: &[u64], zeros: usize) -> Tally {
-    let i = difference(words, zeros);
-    if words.len() <= i {
-        return tally.case(0, 0);
-    }
-    io::write_all(STDOUT_FILENO, b"word ");
-    io::print_decimal(STDOUT_FILENO, i as u64);
-    io::write_all(STDOUT_FILENO, b", ");
-    tally.case(1, 0)
 }
 
 // The answer on the first bytes of a table. Here and below, more than there is gives 255, which no case expects.

@@ -3,7 +3,7 @@ use crate::case::IMPOSSIBLE;
 use crate::case::POSSIBLE;
 use crate::case::decides;
 use crate::case::decides_last;
-use crate::description::Description;
+use vectors::description::Description;
 use vectors::entries::FALSE;
 use vectors::entries::TRUE;
 use vectors::entries::and;

@@ -5,7 +5,7 @@ use crate::case::decides;
 use crate::case::decides_last;
 use crate::case::lends;
 use crate::case::refuses;
-use crate::description::Description;
+use vectors::description::Description;
 use vectors::entries::FALSE;
 use vectors::entries::TRUE;
 use vectors::entries::and;

@@ -3,7 +3,6 @@
 // 01's W, W, and two more. A case that comes out differently is reported on a line.
 mod case;
 mod deep;
-mod description;
 mod examples;
 mod grades;
 mod parts;

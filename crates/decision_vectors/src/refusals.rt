@@ -2,7 +2,7 @@
 use crate::case::POSSIBLE;
 use crate::case::lends;
 use crate::case::refuses;
-use crate::description::Description;
+use vectors::description::Description;
 use vectors::entries::TRUE;
 use vectors::entries::fact;
 use vectors::entries::not;

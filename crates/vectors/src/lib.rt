@@ -1,3 +1,5 @@
-// What the programs that run document 01's boundaries share: packed tables, and the tally of the cases.
+// What the programs that run document 01's boundaries share: packed tables, the tally of the cases, and lent words.
+pub mod description;
 pub mod entries;
 pub mod tally;
+pub mod words;

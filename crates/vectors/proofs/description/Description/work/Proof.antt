@@ -3,8 +3,8 @@ use Prim.Native.Nat.{ℕ, _*_, _^_, _≤_, _<_}
 use native.Mathlib.Nat.{mul-le-mul, lt-of-le-of-lt}
 use lib.Dec.{lit<}
 use borrow.Author.Needs.{needs}
-use Rattle.decision_vectors.proofs.description.Description.work.Statement.{statement}
-use Rattle.decision_vectors.proofs.description.Description.work.Tie as tie
+use Rattle.vectors.proofs.description.Description.work.Statement.{statement}
+use Rattle.vectors.proofs.description.Description.work.Tie as tie
 
 product : (a b : ℕ) → a ≤ 512 → b ≤ 65674 → a * b < 2 ^ 64
 product a b p q = lt-of-le-of-lt (mul-le-mul p q) (lit< tt)

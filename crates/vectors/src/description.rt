@@ -1,6 +1,6 @@
-// The entries of a table, the last of them the one that is decided unless a case says otherwise.
-use vectors::entries::Room;
-use vectors::entries::put;
+// The entries of a table, one after the other, and what a call on them needs of words.
+use crate::entries::Room;
+use crate::entries::put;
 
 // The first `bytes` bytes are the table. `grades` is document 01's G: the sum of (grade + 1) over kinds 6 and 7.
 pub struct Description {

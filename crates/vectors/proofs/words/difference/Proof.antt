@@ -2,8 +2,8 @@
 use Prim.Native.Nat.{_-_}
 use lib.ListN.{length}
 use borrow.Author.Needs.{needs}
-use Rattle.decision_vectors.proofs.case.difference.Statement.{statement}
-use Rattle.decision_vectors.proofs.case.difference.Tie as tie
+use Rattle.vectors.proofs.words.difference.Statement.{statement}
+use Rattle.vectors.proofs.words.difference.Tie as tie
 
 abbrev Inv-loop : tie.InvT-loop
 Inv-loop words zeros i₀ i = Unit {0}

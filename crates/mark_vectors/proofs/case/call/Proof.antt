@@ -1,0 +1,21 @@
+-- `call` is safe and ends. The part that is lent is as long as asked.
+use mathlib.Core.Path.{sym}
+use lib.Seq.{length-take-le}
+use borrow.Author.Needs.{needs}
+use Rattle.mark_vectors.proofs.case.call.Statement.{statement}
+use Rattle.mark_vectors.proofs.case.call.Tie as tie
+
+slice-aggregate-on-table : tie.Need-slice-aggregate-on-table
+slice-aggregate-on-table c =
+    sym (length-take-le (c .before .before .before .before .args .lent) (c .before .before .before .before .args .words .now) (search needs))
+
+pub call-spec : {M : Type 1} → statement M
+call-spec =
+    tie.close
+    (tie.spec
+    (λ c. search needs)
+    (λ c. search needs)
+    slice-aggregate-on-table
+    (λ c κs. search needs)
+    (λ c. search needs)
+    (λ c. search needs))
