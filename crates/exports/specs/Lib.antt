@@ -1,0 +1,2 @@
+-- the answers as numbers
+pub mod Numbers
