@@ -1,0 +1,86 @@
+//! What was compared, in numbers.
+
+use hurnavis::raw;
+use std::collections::BTreeMap;
+use std::time::{Duration, Instant};
+
+/// How often each result came.
+#[derive(Default)]
+pub struct Results {
+    counts: BTreeMap<u32, usize>,
+}
+
+impl Results {
+    pub fn note(&mut self, result: u32) {
+        *self.counts.entry(result).or_insert(0) += 1;
+    }
+
+    fn print(&self, call: &str) {
+        let all: usize = self.counts.values().sum();
+        if all == 0 {
+            return;
+        }
+        println!("{call}: {all} calls");
+        for (result, count) in &self.counts {
+            let share = 100.0 * *count as f64 / all as f64;
+            let name = match result.checked_sub(raw::REFUSED) {
+                None => format!("answer {result}"),
+                Some(number) => format!("refused {number}"),
+            };
+            println!("    {name:12} {count:8} {share:6.2} %");
+        }
+    }
+}
+
+#[derive(Default)]
+pub struct Tally {
+    /// The inputs of each family, and how many of them the decision calls unsatisfiable.
+    pub families: BTreeMap<&'static str, (usize, usize)>,
+    pub board: Results,
+    pub decide: Results,
+    pub mark: Results,
+    pub by_decisions: Results,
+    /// Answers that both sides gave, and answers on which the independent side gave up.
+    pub compared: usize,
+    pub given_up: usize,
+    /// Structures looked at, entries seen to hold, and pairs seen apart.
+    pub structures: usize,
+    pub seen_to_hold: usize,
+    pub seen_apart: usize,
+    /// The time of all library calls together, and of the slowest one since it was last taken.
+    pub in_library: Duration,
+    pub slowest: Duration,
+}
+
+impl Tally {
+    /// Runs a call of the library and notes its time.
+    pub fn timed<T>(&mut self, call: impl FnOnce() -> T) -> T {
+        let started = Instant::now();
+        let result = call();
+        let took = started.elapsed();
+        self.in_library += took;
+        self.slowest = self.slowest.max(took);
+        result
+    }
+
+    pub fn print(&self) {
+        println!("inputs by family, and unsatisfiable ones among them:");
+        for (family, (inputs, unsatisfiable)) in &self.families {
+            println!("    {family:16} {inputs:8} {unsatisfiable:8}");
+        }
+        self.board.print("board");
+        self.decide.print("decide");
+        self.mark.print("mark");
+        self.by_decisions.print("mark by two decisions");
+        let answers = self.compared + self.given_up;
+        let share = 100.0 * self.given_up as f64 / answers.max(1) as f64;
+        println!(
+            "answers compared: {}, independent side gave up: {} ({share:.2} %)",
+            self.compared, self.given_up
+        );
+        println!(
+            "small structures tried: {}, entries seen to hold: {}, pairs seen apart: {}",
+            self.structures, self.seen_to_hold, self.seen_apart
+        );
+    }
+}
