@@ -1,0 +1,2 @@
+-- questions that have been answered
+pub mod Memory

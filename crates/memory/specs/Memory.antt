@@ -1,0 +1,47 @@
+-- Questions that have been answered, in lent words. A slot is three words: the codes of the set wanted true and of the set wanted false, and the answer.
+-- An inner contract. What a slot says is so at any depth, whatever was worked out to get it, so slots may be overwritten freely.
+use mathlib.Core.Path.{_≡_}
+use mathlib.Core.Bool.{Bool, true, false}
+use mathlib.Core.List.{List}
+use Prim.Native.Nat.{ℕ, _+_, _*_, _≤_}
+use lib.ListN.{length, getD, take}
+use Rattle.sets.specs.Word.{bitAt}
+use Rattle.table.specs.declared.entry.Entry.{Entry}
+use Rattle.tableau.specs.Wants.{Answers, Sat}
+use Rattle.memory.specs.declared.Place.{Place}
+use Rattle.memory.specs.declared.Remembered.{Remembered}
+
+-- the number that stands for an answer; 0 stands for none
+abbrev pub mark : Bool → ℕ
+mark true = 1
+mark false = 2
+
+module _ (entry : ℕ → Entry) where
+  -- a slot whose last word is the number of an answer says that this is the answer
+  pub record Recalled (yes no last : ℕ) : Type 0 where
+    pub says : (answer : Bool) → last ≡ mark answer → Answers answer (Sat entry (bitAt yes) (bitAt no))
+
+  -- so do all slots from a place on
+  pub record Memory (words : List ℕ) (from : ℕ) : Type 0 where
+    pub slot : (k : ℕ) → Recalled (getD words (from + 3 * k) 0) (getD words (from + 3 * k + 1) 0) (getD words (from + 3 * k + 2) 0)
+
+  -- what is recalled of a question
+  abbrev pub RecallIs : (yes no : ℕ → Bool) → Remembered → Type 0
+  RecallIs ts fs (Remembered.Answer answer) = Answers answer (Sat entry ts fs)
+  RecallIs ts fs Remembered.Nothing = Unit {0}
+
+-- a slot's last word stands for an answer
+abbrev pub StandsFor : ℕ → Remembered → Type 0
+StandsFor last (Remembered.Answer answer) = last ≡ mark answer
+StandsFor last Remembered.Nothing = Unit {0}
+
+-- a slot's place among the words, if there is room for any
+abbrev pub PlaceIs : (from words : ℕ) → Place → Type 0
+PlaceIs from words (Place.At at) = (k : ℕ) × (at ≡ from + 3 * k) × (at + 3 ≤ words)
+PlaceIs from words Place.Nowhere = Unit {0}
+
+-- an answer was stored: the words before the slots are as they were, and the slots still say what is so
+pub record Stored (from : ℕ) (yes no : ℕ → Bool) (answer : Bool) (before after : List ℕ) : Type 0 where
+  pub same-length : length after ≡ length before
+  pub same : take from after ≡ take from before
+  pub memory : (entry : ℕ → Entry) → Memory entry before from → Answers answer (Sat entry yes no) → Memory entry after from

@@ -1,0 +1,87 @@
+// Questions that have been answered, kept in lent words: a slot is the set wanted true, the set wanted false, and the
+// answer. A slot is found by its sets and overwritten freely.
+ghost use mathlib.Core.Path.{_≡_};
+ghost use Prim.Native.Nat.{ℕ};
+ghost use Rattle.sets.specs.Set.{member};
+ghost use Rattle.table.specs.declared.entry.Entry.{Entry};
+ghost use Rattle.memory.specs.Memory.{mark, Memory, RecallIs, StandsFor, PlaceIs, Stored};
+use packed::word_at;
+use sets::Set;
+
+// Where a slot begins, if there is room for any.
+pub enum Place {
+    At(usize),
+    Nowhere,
+}
+
+// The answer to a question, if it is remembered.
+pub enum Remembered {
+    Answer(bool),
+    Nothing,
+}
+
+// A number by which to spread questions over slots.
+fn spread(yes: u64, no: u64) -> u64 {
+    yes ^ (yes >> 29) ^ (no << 17) ^ (no >> 13) ^ (no << 41)
+}
+
+// The place of a question's slot among so many words, the slots beginning at a place.
+fn find(words: usize, from: usize, yes: Set, no: Set) -> Place
+    ensures { λ r. ⌜ PlaceIs from words r ⌝ }
+{
+    if words <= from {
+        return Place::Nowhere;
+    }
+    let slots = (words - from) / 3;
+    if slots == 0 {
+        return Place::Nowhere;
+    }
+    let slot = spread(yes.code(), no.code()) as usize % slots;
+    Place::At(from + 3 * slot)
+}
+
+// The answer that a slot's last word stands for.
+fn answer_of(last: u64) -> Remembered
+    ensures { λ r. ⌜ StandsFor last r ⌝ }
+{
+    match last {
+        1 => Remembered::Answer(true),
+        2 => Remembered::Answer(false),
+        _ => Remembered::Nothing,
+    }
+}
+
+// The word that stands for an answer.
+fn mark_of(answer: bool) -> u64
+    ensures { λ r. ⌜ r ≡ mark answer ⌝ }
+{
+    if answer { 1 } else { 2 }
+}
+
+// Whether some world makes one set of entries true and another false, if that is remembered in the slots from a place on.
+pub fn recall(words: &[u64], from: usize, yes: Set, no: Set) -> Remembered
+    ensures { λ r. ⌜ ((entry : ℕ → Entry) → Memory entry (now (words .entry)) from → RecallIs entry (member yes) (member no) r) ⌝ }
+{
+    let Place::At(at) = find(words.len(), from, yes, no) else {
+        return Remembered::Nothing;
+    };
+    if word_at(words, at) != yes.code() {
+        return Remembered::Nothing;
+    }
+    if word_at(words, at + 1) != no.code() {
+        return Remembered::Nothing;
+    }
+    answer_of(word_at(words, at + 2))
+}
+
+// Stores an answer, over another one if need be.
+pub fn remember(words: &mut [u64], from: usize, yes: Set, no: Set, answer: bool)
+    ensures { λ r. ⌜ Stored from (member yes) (member no) answer (now (words .entry)) (now (words .exit)) ⌝ }
+{
+    let Place::At(at) = find(words.len(), from, yes, no) else {
+        return;
+    };
+    words[at] = yes.code();
+    words[at + 1] = no.code();
+    words[at + 2] = mark_of(answer);
+}
