@@ -1,12 +1,14 @@
 -- Slots stay what they are where their words move: the words before them are lent, or those from a level on are lent on and come back.
 use mathlib.Core.Path.{_≡_, sym, ap, _∙_}
 use mathlib.Core.Bool.{Bool, true, false}
-use mathlib.Core.List.{List, [], _++_, append-nil}
-use Prim.Native.Nat.{ℕ, suc, _+_, _-_, _*_, _≤_}
-use native.Mathlib.Nat.{suc-mul, le-of-eq, le-refl}
+use mathlib.Core.List.{List, _++_, append-nil}
+use Prim.Native.Nat.{ℕ, suc, _+_, _-_, _*_, _<_, _≤_}
+use native.Mathlib.Nat.{suc-mul, le-of-eq, eq-or-lt-of-le, le-of-suc-le-suc}
+use native.Mathlib.Decide.{decLt}
+use mathlib.Core.Logic.{⊎-elim, by-cases}
 use native.Mathlib.Omega.{arith}
-use lib.ListN.{length, getD, take, drop, length-drop}
-use lib.Seq.{take-all, drop-length, getD-drop, getD-append-add, length-take-le}
+use lib.ListN.{length, getD, set, take, drop, length-drop, List·getD-eq-default}
+use lib.Seq.{getD-set-same, getD-set-other, take-all, drop-length, getD-drop, getD-append-add, length-take-le}
 use borrow.Rule.Slice.PartMut.{putMid, post-is}
 use Rattle.table.specs.declared.entry.Entry.{Entry}
 use Rattle.memory.specs.Memory.{mark, Memory}
@@ -16,7 +18,7 @@ module _ (entry : ℕ → Entry) where
   pub memory-moved : {words : List ℕ} {from : ℕ} (others : List ℕ) (to : ℕ) → Memory entry words from → ((i : ℕ) → getD others (to + i) 0 ≡ getD words (from + i) 0)
       → Memory entry others to
   memory-moved {words} {from} others to memory same = record {
-    slot = λ k. rw (same (3 * k), third k 1, third k 2) (memory .slot k);
+    slot = λ k few. rw (same (3 * k), third k 1, third k 2) (memory .slot k few);
   }
     where
       third : (k j : ℕ) → getD others (to + 3 * k + j) 0 ≡ getD words (from + 3 * k + j) 0
@@ -58,9 +60,23 @@ module _ (entry : ℕ → Entry) where
         ∙ ap (λ (l : List ℕ). getD l (depth * level + i) 0) (nothing-left worked))
 
   -- words of 0 remember nothing
-  pub memory-none : (words : List ℕ) (from : ℕ) → ((i : ℕ) → from ≤ i → getD words i 0 ≡ 0) → Memory entry words from
-  memory-none words from zero = record { slot = λ k. record { says = λ answer e. absurd (unmarked answer (sym (zero (from + 3 * k + 2) (omega arith)) ∙ e)) } }
+  pub memory-none : (words : List ℕ) (from : ℕ) → ((i : ℕ) → from ≤ i → i < from + 12288 → getD words i 0 ≡ 0) → Memory entry words from
+  memory-none words from zero = record { slot = λ k few. record { says = λ answer e. absurd (unmarked answer (sym (zero (from + 3 * k + 2) (omega arith) (omega arith)) ∙ e)) } }
     where
       unmarked : (answer : Bool) → 0 ≡ mark answer → ⊥
       unmarked true e = omega arith
       unmarked false e = omega arith
+
+-- words that become 0 one by one, from a place on
+abbrev pub Zeros : ℕ → ℕ → List ℕ → Type 0
+Zeros from i words = (j : ℕ) → from ≤ j → j < i → getD words j 0 ≡ 0
+
+pub zeros-next : (words : List ℕ) (from i : ℕ) → i < length words → Zeros from i words → Zeros from (suc i) (set words i 0)
+zeros-next words from i room zeros j a l =
+    ⊎-elim (λ (e : j ≡ i). rw e (getD-set-same words i 0 0 room)) (λ (less : j < i). getD-set-other words i j 0 0 (omega arith) ∙ zeros j a less)
+    (eq-or-lt-of-le (le-of-suc-le-suc l))
+
+-- past the end all is 0
+pub zeros-past : (words : List ℕ) (from i : ℕ) → length words ≤ i → Zeros from i words → (j : ℕ) → from ≤ j → getD words j 0 ≡ 0
+zeros-past words from i past zeros j a =
+    by-cases (decLt j i) (λ (l : j < i). zeros j a l) (λ (g : ¬ (j < i)). List·getD-eq-default words 0 (omega arith))

@@ -21,13 +21,13 @@ mark-injective false true e = absurd (omega arith)
 mark-injective false false e = refl
 
 -- a slot with the codes of two sets answers their question
-pub recalled : (entry : ℕ → Entry) (words : List ℕ) (from at k : ℕ) (yes no : Set) (last : ℕ) (r : Remembered) → Memory entry words from → at ≡ from + 3 * k
+pub recalled : (entry : ℕ → Entry) (words : List ℕ) (from at k : ℕ) → k < 4096 → (yes no : Set) (last : ℕ) (r : Remembered) → Memory entry words from → at ≡ from + 3 * k
     → getD words at 0 ≡ code yes → getD words (at + 1) 0 ≡ code no → getD words (at + 2) 0 ≡ last → StandsFor last r → RecallIs entry (member yes) (member no) r
 unfolding member
-recalled entry words from at k ts fs last (Remembered.Answer a) memory is first second third stands =
-    let said = memory .slot k .says a in
+recalled entry words from at k few ts fs last (Remembered.Answer a) memory is first second third stands =
+    let said = memory .slot k few .says a in
     (rw (← is, first, second, third) at said) stands
-recalled entry words from at k ts fs last Remembered.Nothing memory is first second third stands = tt
+recalled entry words from at k few ts fs last Remembered.Nothing memory is first second third stands = tt
 
 -- three words are written at a place
 module _ (words : List ℕ) (at y n m : ℕ) (room : at + 3 ≤ length words) where
@@ -57,20 +57,20 @@ module _ (words : List ℕ) (at y n m : ℕ) (room : at + 3 ≤ length words) wh
   third = getD-set-same twice (at + 2) m 0 (simp length-set (omega arith))
 
   module _ (entry : ℕ → Entry) (from k : ℕ) (is : at ≡ from + 3 * k) (memory : Memory entry words from) where
-    same-slot : (j : ℕ) → ((i : ℕ) → from + 3 * j ≤ i → i < from + 3 * j + 3 → getD written i 0 ≡ getD words i 0)
+    same-slot : (j : ℕ) → j < 4096 → ((i : ℕ) → from + 3 * j ≤ i → i < from + 3 * j + 3 → getD written i 0 ≡ getD words i 0)
         → Recalled entry (getD written (from + 3 * j) 0) (getD written (from + 3 * j + 1) 0) (getD written (from + 3 * j + 2) 0)
-    same-slot j same =
-        rw (same (from + 3 * j) (omega arith) (omega arith), same (from + 3 * j + 1) (omega arith) (omega arith), same (from + 3 * j + 2) (omega arith) (omega arith)) (memory .slot j)
+    same-slot j few same =
+        rw (same (from + 3 * j) (omega arith) (omega arith), same (from + 3 * j + 1) (omega arith) (omega arith), same (from + 3 * j + 2) (omega arith) (omega arith)) (memory .slot j few)
 
     new-slot : Recalled entry y n m → Recalled entry (getD written (from + 3 * k) 0) (getD written (from + 3 * k + 1) 0) (getD written (from + 3 * k + 2) 0)
     new-slot new = rw (← is, first, second, third) new
 
     slot-written : Recalled entry y n m → Memory entry written from
     slot-written new = record {
-      slot = λ j. by-cases (ℕ-discrete j k) (λ (e : j ≡ k). rw e (new-slot new))
+      slot = λ j few. by-cases (ℕ-discrete j k) (λ (e : j ≡ k). rw e (new-slot new))
           (λ (apart : j ≡ k → ⊥). by-cases (decLt j k)
-          (λ (l : j < k). same-slot j (λ i a b. before i (omega arith)))
-          (λ (g : ¬ (j < k)). same-slot j (λ i a b. behind i (omega (arith, apart)))));
+          (λ (l : j < k). same-slot j few (λ i a b. before i (omega arith)))
+          (λ (g : ¬ (j < k)). same-slot j few (λ i a b. behind i (omega (arith, apart)))));
     }
 
 -- the answer to a question is written into its slot

@@ -3,7 +3,7 @@
 use mathlib.Core.Path.{_≡_}
 use mathlib.Core.Bool.{Bool, true, false}
 use mathlib.Core.List.{List}
-use Prim.Native.Nat.{ℕ, _+_, _*_, _≤_}
+use Prim.Native.Nat.{ℕ, _+_, _*_, _<_, _≤_}
 use lib.ListN.{length, getD, take}
 use Rattle.sets.specs.Word.{bitAt}
 use Rattle.table.specs.declared.entry.Entry.{Entry}
@@ -21,9 +21,9 @@ module _ (entry : ℕ → Entry) where
   pub record Recalled (yes no last : ℕ) : Type 0 where
     pub says : (answer : Bool) → last ≡ mark answer → Answers answer (Sat entry (bitAt yes) (bitAt no))
 
-  -- so do all slots from a place on
+  -- so do the slots from a place on, 4,096 at the most
   pub record Memory (words : List ℕ) (from : ℕ) : Type 0 where
-    pub slot : (k : ℕ) → Recalled (getD words (from + 3 * k) 0) (getD words (from + 3 * k + 1) 0) (getD words (from + 3 * k + 2) 0)
+    pub slot : (k : ℕ) → k < 4096 → Recalled (getD words (from + 3 * k) 0) (getD words (from + 3 * k + 1) 0) (getD words (from + 3 * k + 2) 0)
 
   -- what is recalled of a question
   abbrev pub RecallIs : (yes no : ℕ → Bool) → Remembered → Type 0
@@ -37,7 +37,7 @@ StandsFor last Remembered.Nothing = Unit {0}
 
 -- a slot's place among the words, if there is room for any
 abbrev pub PlaceIs : (from words : ℕ) → Place → Type 0
-PlaceIs from words (Place.At at) = (k : ℕ) × (at ≡ from + 3 * k) × (at + 3 ≤ words)
+PlaceIs from words (Place.At at) = (k : ℕ) × (k < 4096) × (at ≡ from + 3 * k) × (at + 3 ≤ words)
 PlaceIs from words Place.Nowhere = Unit {0}
 
 -- an answer was stored: the words before the slots are as they were, and the slots still say what is so
@@ -45,3 +45,8 @@ pub record Stored (from : ℕ) (yes no : ℕ → Bool) (answer : Bool) (before a
   pub same-length : length after ≡ length before
   pub same : take from after ≡ take from before
   pub memory : (entry : ℕ → Entry) → Memory entry before from → Answers answer (Sat entry yes no) → Memory entry after from
+
+-- the words of the slots are 0, and those before them are as they were
+pub record Forgotten (from : ℕ) (before after : List ℕ) : Type 0 where
+  pub same-length : length after ≡ length before
+  pub memory : (entry : ℕ → Entry) → Memory entry after from

@@ -1,10 +1,10 @@
 // Questions that have been answered, kept in lent words: a slot is the set wanted true, the set wanted false, and the
 // answer. A slot is found by its sets and overwritten freely.
 ghost use mathlib.Core.Path.{_≡_};
-ghost use Prim.Native.Nat.{ℕ};
+ghost use Prim.Native.Nat.{ℕ, min};
 ghost use Rattle.sets.specs.Set.{member};
 ghost use Rattle.table.specs.declared.entry.Entry.{Entry};
-ghost use Rattle.memory.specs.Memory.{mark, Memory, RecallIs, StandsFor, PlaceIs, Stored};
+ghost use Rattle.memory.specs.Memory.{mark, Memory, RecallIs, StandsFor, PlaceIs, Stored, Forgotten};
 use packed::word_at;
 use sets::Set;
 
@@ -25,6 +25,12 @@ fn spread(yes: u64, no: u64) -> u64 {
     yes ^ (yes >> 29) ^ (no << 17) ^ (no >> 13) ^ (no << 41)
 }
 
+fn fewer(a: usize, b: usize) -> usize
+    ensures { λ r. ⌜ r ≡ min a b ⌝ }
+{
+    if a < b { a } else { b }
+}
+
 // The place of a question's slot among so many words, the slots beginning at a place.
 fn find(words: usize, from: usize, yes: Set, no: Set) -> Place
     ensures { λ r. ⌜ PlaceIs from words r ⌝ }
@@ -32,7 +38,7 @@ fn find(words: usize, from: usize, yes: Set, no: Set) -> Place
     if words <= from {
         return Place::Nowhere;
     }
-    let slots = (words - from) / 3;
+    let slots = fewer((words - from) / 3, 4096);
     if slots == 0 {
         return Place::Nowhere;
     }
@@ -84,4 +90,20 @@ pub fn remember(words: &mut [u64], from: usize, yes: Set, no: Set, answer: bool)
     words[at] = yes.code();
     words[at + 1] = no.code();
     words[at + 2] = mark_of(answer);
+}
+
+// Forgets everything: the words of the slots become 0.
+pub fn forget(words: &mut [u64], from: usize)
+    ensures { λ r. ⌜ Forgotten from (now (words .entry)) (now (words .exit)) ⌝ }
+{
+    let mut i = from;
+    let mut left: usize = 12288;
+    while i < words.len() {
+        if left == 0 {
+            return;
+        }
+        words[i] = 0;
+        i += 1;
+        left -= 1;
+    }
 }

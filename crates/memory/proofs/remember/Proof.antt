@@ -18,7 +18,7 @@ returns c = record { same-length = refl; same = refl; memory = λ entry memory s
 
 returns-2 : tie.Need-returns-2
 returns-2 c =
-    let (k, is, room) = found (c .before .before .before .before) in
+    let (k, few, is, room) = found (c .before .before .before .before) in
     rw (c .before .before .code .ensures, c .before .code2 .ensures, c .mark-of .ensures) (stored _ _ _ k (c .before .before .before .before .before .before .before .before .args .yes) (c .before .before .before .before .before .before .before .before .args .no) (c .before .before .before .before .before .before .before .before .args .answer) is room)
 
 pub remember-spec : {M : Type 1} → statement M
@@ -30,15 +30,15 @@ remember-spec =
     (λ c. search needs)
     returns
     (λ c κs. search needs)
-    (λ c. let (k, is, room) = found (c .before .before) in omega (arith, room, c .before .before .before .before .before .before .good .0))
-    (λ c. let (k, is, room) = found (c .before .before) in omega (arith, room))
+    (λ c. let (k, few, is, room) = found (c .before .before) in omega (arith, room, c .before .before .before .before .before .before .good .0))
+    (λ c. let (k, few, is, room) = found (c .before .before) in omega (arith, room))
     (λ c κs. search needs)
-    (λ c. let (k, is, room) = found (c .before .before .before) in omega (arith, room, c .before .before .before .before .before .before .before .good .0))
-    (λ c. let (k, is, room) = found (c .before .before .before) in omega (arith, room, c .before .before .before .before .before .before .before .good .0))
-    (λ c. let (k, is, room) = found (c .before .before .before) in simp length-set (omega (arith, room)))
+    (λ c. let (k, few, is, room) = found (c .before .before .before) in omega (arith, room, c .before .before .before .before .before .before .before .good .0))
+    (λ c. let (k, few, is, room) = found (c .before .before .before) in omega (arith, room, c .before .before .before .before .before .before .before .good .0))
+    (λ c. let (k, few, is, room) = found (c .before .before .before) in simp length-set (omega (arith, room)))
     (λ c κs. search needs)
-    (λ c. let (k, is, room) = found (c .before .before .before .before) in omega (arith, room, c .before .before .before .before .before .before .before .before .good .0))
-    (λ c. let (k, is, room) = found (c .before .before .before .before) in omega (arith, room, c .before .before .before .before .before .before .before .before .good .0))
-    (λ c. let (k, is, room) = found (c .before .before .before .before) in simp length-set (omega (arith, room)))
+    (λ c. let (k, few, is, room) = found (c .before .before .before .before) in omega (arith, room, c .before .before .before .before .before .before .before .before .good .0))
+    (λ c. let (k, few, is, room) = found (c .before .before .before .before) in omega (arith, room, c .before .before .before .before .before .before .before .before .good .0))
+    (λ c. let (k, few, is, room) = found (c .before .before .before .before) in simp length-set (omega (arith, room)))
     (λ c. search needs)
     returns-2)
