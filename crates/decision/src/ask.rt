@@ -14,5 +14,6 @@ pub fn ask(table: &[u8], yes: Set, no: Set, depth: usize, words: &mut [u64]) -> 
     let n = table.len() / 4;
     let level = table::space::work_words(table, 0) / 2;
     let entries = wide::widen(table);
+    memory::forget(words, (depth + 1) * level);
     satisfy::ask::satisfiable(&entries[..n], yes, no, depth, level, words)
 }

@@ -8,6 +8,8 @@ pub mod Counted
 pub mod Worlds
 -- two entries that exclude each other
 pub mod Pairs
+-- answers that are kept behind the levels
+pub mod Recalling
 -- what the functions that call each other hand to each other
 pub mod Calls
 -- the question through two sets

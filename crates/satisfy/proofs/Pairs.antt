@@ -1,6 +1,7 @@
 -- A need and a limit of a problem, as the promises of two entries.
 use mathlib.Core.Path.{_≡_}
 use mathlib.Core.Bool.{Bool, true, not}
+use mathlib.Core.List.{List}
 use Prim.Native.Nat.{ℕ, _-_, _<_}
 use lib.Dec.{eqb}
 use Rattle.sets.specs.declared.Set.{Set}
@@ -16,7 +17,7 @@ use Rattle.satisfy.proofs.Promises.{promise-below, promising-fewer}
 pub within-removed : {p q : ℕ → Bool} (i : ℕ) → Within p q → Within (removed p i) q
 within-removed {p} i within j h = within j (both-parts true (not (eqb j i)) (p j) h .1)
 
-module _ {P : Problem} {all : Set} {depth level words : ℕ} (asked : ProblemAsked P all depth level words) where
+module _ {P : Problem} {all : Set} {depth level : ℕ} {work : List ℕ} (asked : ProblemAsked P all depth level work) where
   all-asking : (i : ℕ) → member all i ≡ true → asking P i ≡ true
   all-asking i h = rw (asked .all-asking) at h
 

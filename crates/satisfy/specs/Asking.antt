@@ -3,7 +3,7 @@ use mathlib.Core.Path.{_≡_}
 use mathlib.Core.Bool.{Bool, true, false}
 use mathlib.Core.List.{List}
 use Prim.Native.Nat.{ℕ, suc, _+_, _-_, _*_, _<_, _≤_}
-use lib.ListN.{take}
+use lib.ListN.{length, take}
 use Rattle.semantics.specs.Structure.{Structure}
 use Rattle.sets.specs.declared.Set.{Set}
 use Rattle.sets.specs.Set.{member, code, Within}
@@ -13,6 +13,7 @@ use Rattle.table.specs.Space.{gradeSum}
 use Rattle.tableau.specs.Wants.{Answers}
 use Rattle.tableau.specs.Counting.{Solution}
 use Rattle.tableau.specs.Search.{Problem, asking, Fit, Solvable}
+use Rattle.memory.specs.Memory.{Memory}
 use Rattle.wants.specs.declared.Wants.{Wants}
 use Rattle.wants.specs.Outcome.{MeetsW}
 use Rattle.satisfy.specs.World.{SatW, CaseOf, Ready}
@@ -24,18 +25,24 @@ pub record Roomy (entry : ℕ → Entry) (n depth level words : ℕ) : Type 0 wh
   pub stack : 2 * gradeSum entry n + 2 ≤ level
   pub levels : suc depth * level ≤ words
 
+-- the answers kept behind the levels are right
+abbrev pub Remembers : (ℕ → Entry) → (depth level : ℕ) → List ℕ → Type 0
+Remembers entry depth level work = Memory entry work (suc depth * level)
+
 module _ (entry : ℕ → Entry) where
-  pub record WorldAsked (n : ℕ) (w : Wants) (bound depth level words : ℕ) : Type 0 where
+  pub record WorldAsked (n : ℕ) (w : Wants) (bound depth level : ℕ) (work : List ℕ) : Type 0 where
     pub ready : Ready entry n w bound depth
     pub small : bound ≤ 64
-    pub room : Roomy entry n depth level words
+    pub room : Roomy entry n depth level (length work)
+    pub memory : Remembers entry depth level work
 
   -- entry d is the highest that is pending
-  pub record CaseAsked (n : ℕ) (w : Wants) (d depth level words : ℕ) : Type 0 where
+  pub record CaseAsked (n : ℕ) (w : Wants) (d depth level : ℕ) (work : List ℕ) : Type 0 where
     pub ready : Ready entry n w 64 depth
     pub top : Greatest (member (w .pending)) d
     pub small : d < 64
-    pub room : Roomy entry n depth level words
+    pub room : Roomy entry n depth level (length work)
+    pub memory : Remembers entry depth level work
 
   -- yes: some world is as wanted; no: none is that falls under the case
   abbrev pub CaseAnswers : Wants → ℕ → Bool → Bool → Type 0
@@ -43,9 +50,23 @@ module _ (entry : ℕ → Entry) where
   CaseAnswers w d case false = (s : Structure) (u : ℕ) → u < s .worlds → MeetsW entry s u w → CaseOf entry case d s u → ⊥
 
   -- nothing is pending
-  pub record LeafAsked (n : ℕ) (w : Wants) (depth level words : ℕ) : Type 0 where
+  pub record LeafAsked (n : ℕ) (w : Wants) (depth level : ℕ) (work : List ℕ) : Type 0 where
     pub ready : Ready entry n w 0 depth
-    pub room : Roomy entry n depth level words
+    pub room : Roomy entry n depth level (length work)
+    pub memory : Remembers entry depth level work
+
+  -- a successor is asked for, at a world one less deep
+  pub record NextAsked (n : ℕ) (w : Wants) (depth level : ℕ) (work : List ℕ) : Type 0 where
+    pub ready : Ready entry n w 64 (depth - 1)
+    pub deep : 0 < depth
+    pub room : Roomy entry n depth level (length work)
+    pub memory : Remembers entry depth level work
+
+  -- can the successor be had; the words of the level are as before
+  pub record Had (w : Wants) (depth level : ℕ) (before after : List ℕ) (r : Bool) : Type 0 where
+    pub answers : Answers r (SatW entry w)
+    pub same : take level after ≡ take level before
+    pub memory : Remembers entry depth level after
 
   -- the relations of the counting entries that are not in `rest` have solutions
   pub record Solving (w : Wants) (rest : ℕ → Bool) : Type 0 where
@@ -54,24 +75,28 @@ module _ (entry : ℕ → Entry) where
 
 module _ (P : Problem) where
   -- a problem at a world of this depth, which is not 0
-  pub record ProblemAsked (all : Set) (depth level words : ℕ) : Type 0 where
+  pub record ProblemAsked (all : Set) (depth level : ℕ) (work : List ℕ) : Type 0 where
     pub promising : Promising P (asking P) (depth - 1)
     pub deep : 0 < depth
     pub all-asking : member all ≡ asking P
-    pub room : Roomy (P .entry) (P .n) depth level words
+    pub room : Roomy (P .entry) (P .n) depth level (length work)
+    pub memory : Remembers (P .entry) depth level work
 
   -- promises of needs and limits of the problem
-  pub record PromisesAsked (promises : Set) (depth level words : ℕ) : Type 0 where
+  pub record PromisesAsked (promises : Set) (depth level : ℕ) (work : List ℕ) : Type 0 where
     pub promising : Promising P (member promises) (depth - 1)
     pub deep : 0 < depth
-    pub room : Roomy (P .entry) (P .n) depth level words
+    pub room : Roomy (P .entry) (P .n) depth level (length work)
+    pub memory : Remembers (P .entry) depth level work
 
   -- can the promises be kept; the words of the level are as before
-  pub record Kept (promises : Set) (level : ℕ) (before after : List ℕ) (r : Bool) : Type 0 where
+  pub record Kept (promises : Set) (depth level : ℕ) (before after : List ℕ) (r : Bool) : Type 0 where
     pub answers : Answers r (Fit P (code promises))
     pub same : take level after ≡ take level before
+    pub memory : Remembers (P .entry) depth level after
 
   -- the problem is known to have no solution; the words of the level are as before
-  pub record Opposed (level : ℕ) (before after : List ℕ) (r : Bool) : Type 0 where
+  pub record Opposed (depth level : ℕ) (before after : List ℕ) (r : Bool) : Type 0 where
     pub answers : r ≡ true → Solvable P → ⊥
     pub same : take level after ≡ take level before
+    pub memory : Remembers (P .entry) depth level after

@@ -1,7 +1,9 @@
 -- The question through two sets: is there a world where every entry of one is true and every entry of the other false.
 use mathlib.Core.Path.{_≡_}
 use mathlib.Core.Bool.{Bool, true, false}
+use mathlib.Core.List.{List}
 use Prim.Native.Nat.{ℕ, _<_, _≤_}
+use lib.ListN.{length}
 use Rattle.semantics.specs.Structure.{Structure}
 use Rattle.sets.specs.Set.{nothing, Within}
 use Rattle.table.specs.declared.entry.Entry.{Entry}
@@ -12,7 +14,7 @@ use Rattle.wants.specs.declared.Wants.{Wants}
 use Rattle.wants.specs.declared.Outcome.{Outcome}
 use Rattle.wants.specs.Outcome.{wantedW, GrowsW, MeetsW, SettledW}
 use Rattle.satisfy.specs.World.{SatW, Ready}
-use Rattle.satisfy.specs.Asking.{Roomy}
+use Rattle.satisfy.specs.Asking.{Roomy, Remembers}
 
 module _ (entry : ℕ → Entry) where
   -- every entry of the set is b at the world v of s
@@ -59,6 +61,7 @@ module _ (entry : ℕ → Entry) where
     SettlingIs ts fs depth (Outcome.Settled v) = Settling ts fs depth v
     SettlingIs ts fs depth Outcome.Clash = Sat entry ts fs → ⊥
 
-    pub record QuestionAsked (yes no : ℕ → Bool) (depth level words : ℕ) : Type 0 where
+    pub record QuestionAsked (yes no : ℕ → Bool) (depth level : ℕ) (work : List ℕ) : Type 0 where
       pub sets : SetsAsked yes no depth
-      pub room : Roomy entry n depth level words
+      pub room : Roomy entry n depth level (length work)
+      pub memory : Remembers entry depth level work

@@ -55,7 +55,7 @@ pub fn satisfiable(
     level: usize,
     work: &mut [u64],
 ) -> bool
-    requires { ⌜ QuestionAsked (wideAt (now entries)) (length (now entries)) (member yes) (member no) depth level (length (now work)) ⌝ }
+    requires { ⌜ QuestionAsked (wideAt (now entries)) (length (now entries)) (member yes) (member no) depth level (now work) ⌝ }
     ensures { λ r. ⌜ Answers r (Sat (wideAt (now (entries .entry))) (member yes) (member no)) ⌝ }
 {
     match settle(entries, yes, no, depth) {

@@ -8,7 +8,7 @@ ghost use Rattle.tableau.specs.Wants.{Answers};
 ghost use Rattle.tableau.specs.Search.{Solvable};
 ghost use Rattle.counting.specs.Question.{problemOf};
 ghost use Rattle.satisfy.specs.World.{SatW};
-ghost use Rattle.satisfy.specs.Asking.{WorldAsked, CaseAsked, CaseAnswers, LeafAsked, ProblemAsked, PromisesAsked, Kept, Opposed};
+ghost use Rattle.satisfy.specs.Asking.{WorldAsked, CaseAsked, CaseAnswers, LeafAsked, ProblemAsked, PromisesAsked, NextAsked, Kept, Opposed, Had, Remembers};
 use crate::branch::branch;
 use crate::promise::pair;
 use crate::promise::promised;
@@ -22,6 +22,9 @@ use counting::search;
 use counting::skip;
 use counting::start;
 use counting::take;
+use memory::Remembered;
+use memory::recall;
+use memory::remember;
 use sets::Highest;
 use sets::Set;
 use wants::Outcome;
@@ -36,8 +39,8 @@ pub fn world(
     level: usize,
     work: &mut [u64],
 ) -> bool
-    requires { ⌜ WorldAsked (wideAt (now entries)) (length (now entries)) w bound depth level (length (now work)) ⌝ }
-    ensures { λ r. ⌜ Answers r (SatW (wideAt (now (entries .entry))) w) ⌝ }
+    requires { ⌜ WorldAsked (wideAt (now entries)) (length (now entries)) w bound depth level (now work) ⌝ }
+    ensures { λ r. ⌜ Answers r (SatW (wideAt (now (entries .entry))) w) × Remembers (wideAt (now (entries .entry))) depth level (now (work .exit)) ⌝ }
 {
     let pending = w.pending;
     let Highest::At(d) = pending.highest() else {
@@ -59,8 +62,8 @@ fn case_holds(
     level: usize,
     work: &mut [u64],
 ) -> bool
-    requires { ⌜ CaseAsked (wideAt (now entries)) (length (now entries)) w d depth level (length (now work)) ⌝ }
-    ensures { λ r. ⌜ CaseAnswers (wideAt (now (entries .entry))) w d case r ⌝ }
+    requires { ⌜ CaseAsked (wideAt (now entries)) (length (now entries)) w d depth level (now work) ⌝ }
+    ensures { λ r. ⌜ CaseAnswers (wideAt (now (entries .entry))) w d case r × Remembers (wideAt (now (entries .entry))) depth level (now (work .exit)) ⌝ }
 {
     match branch(entries, w, d, case, depth) {
         Outcome::Settled(v) => world(entries, v, d, depth, level, work),
@@ -70,8 +73,8 @@ fn case_holds(
 
 // Whether some world is as wanted, where nothing is pending: every relation has a solution.
 fn relations(entries: &[u64], w: Wants, depth: usize, level: usize, work: &mut [u64]) -> bool
-    requires { ⌜ LeafAsked (wideAt (now entries)) (length (now entries)) w depth level (length (now work)) ⌝ }
-    ensures { λ r. ⌜ Answers r (SatW (wideAt (now (entries .entry))) w) ⌝ }
+    requires { ⌜ LeafAsked (wideAt (now entries)) (length (now entries)) w depth level (now work) ⌝ }
+    ensures { λ r. ⌜ Answers r (SatW (wideAt (now (entries .entry))) w) × Remembers (wideAt (now (entries .entry))) depth level (now (work .exit)) ⌝ }
 {
     let mut rest = counted(entries, w);
     loop {
@@ -96,18 +99,18 @@ fn solve(
     level: usize,
     work: &mut [u64],
 ) -> bool
-    requires { ⌜ ProblemAsked (problemOf (now entries) q) all depth level (length (now work)) ⌝ }
-    ensures { λ r. ⌜ Answers r (Solvable (problemOf (now (entries .entry)) q)) ⌝ }
+    requires { ⌜ ProblemAsked (problemOf (now entries) q) all depth level (now work) ⌝ }
+    ensures { λ r. ⌜ Answers r (Solvable (problemOf (now (entries .entry)) q)) × Remembers (wideAt (now (entries .entry))) depth level (now (work .exit)) ⌝ }
 {
     let mut at = start(all);
     loop {
-        match search(entries, q, all, work, at) {
+        match search(entries, q, all, &mut work[..level], at) {
             Step::Found => return true,
             Step::Failed => return false,
             Step::Ask(asked, m) => {
                 let next = asked.next;
                 if keeps(entries, q, next, depth, level, work) {
-                    at = take(work, all, asked, m);
+                    at = take(&mut work[..level], all, asked, m);
                 } else {
                     if opposed(entries, q, all, next, depth, level, work) {
                         return false;
@@ -130,8 +133,8 @@ fn opposed(
     level: usize,
     work: &mut [u64],
 ) -> bool
-    requires { ⌜ ProblemAsked (problemOf (now entries) q) all depth level (length (now work)) ⌝ }
-    ensures { λ r. ⌜ Opposed (problemOf (now (entries .entry)) q) level (now (work .entry)) (now (work .exit)) r ⌝ }
+    requires { ⌜ ProblemAsked (problemOf (now entries) q) all depth level (now work) ⌝ }
+    ensures { λ r. ⌜ Opposed (problemOf (now (entries .entry)) q) depth level (now (work .entry)) (now (work .exit)) r ⌝ }
 {
     if tried.code() < all.code() || all.len() < 3 {
         return false;
@@ -168,11 +171,27 @@ fn keeps(
     level: usize,
     work: &mut [u64],
 ) -> bool
-    requires { ⌜ PromisesAsked (problemOf (now entries) q) promises depth level (length (now work)) ⌝ }
-    ensures { λ r. ⌜ Kept (problemOf (now (entries .entry)) q) promises level (now (work .entry)) (now (work .exit)) r ⌝ }
+    requires { ⌜ PromisesAsked (problemOf (now entries) q) promises depth level (now work) ⌝ }
+    ensures { λ r. ⌜ Kept (problemOf (now (entries .entry)) q) promises depth level (now (work .entry)) (now (work .exit)) r ⌝ }
 {
     match promised(entries, q, promises, depth - 1) {
-        Outcome::Settled(v) => world(entries, v, 64, depth - 1, level, &mut work[level..]),
+        Outcome::Settled(v) => next(entries, v, depth, level, work),
         Outcome::Clash => false,
     }
+}
+
+// Whether some world is as wanted, one less deep: it is worked in the rest of the lent words, unless the answer is known.
+fn next(entries: &[u64], w: Wants, depth: usize, level: usize, work: &mut [u64]) -> bool
+    requires { ⌜ NextAsked (wideAt (now entries)) (length (now entries)) w depth level (now work) ⌝ }
+    ensures { λ r. ⌜ Had (wideAt (now (entries .entry))) w depth level (now (work .entry)) (now (work .exit)) r ⌝ }
+{
+    let yes = w.yes;
+    let no = w.no;
+    let from = (depth + 1) * level;
+    if let Remembered::Answer(known) = recall(work, from, yes, no) {
+        return known;
+    }
+    let found = world(entries, w, 64, depth - 1, level, &mut work[level..]);
+    remember(work, from, yes, no, found);
+    found
 }

@@ -1,8 +1,15 @@
--- `ask` meets its contract: the sets are asked of the engine, in the wide words.
+-- `ask` meets its contract: the sets are asked of the engine, in the wide words, with nothing remembered.
 use mathlib.Core.Path.{sym}
 use native.Mathlib.Omega.{arith}
+use lib.ListN.{take}
 use lib.Seq.{length-take-le}
 use borrow.Author.Needs.{needs}
+use Rattle.table.specs.Entry.{size}
+use Rattle.table.specs.Space.{tableWork}
+use Prim.Native.Nat.{_/_}
+use Rattle.wide.specs.Wide.{wideAt}
+use Rattle.satisfy.proofs.Calls.{room-kept}
+use Rattle.satisfy.proofs.Recalling.{from-fits, memory-to}
 use Rattle.decision.proofs.Deciding.{accepted-small}
 use Rattle.decision.proofs.Question.{sets-asked, sets-room, sets-answer}
 use Rattle.decision.proofs.ask.ask.Statement.{statement}
@@ -14,22 +21,32 @@ work-words-requires c κs = (accepted-small _ (c .before .before .pre .accepted)
 widen-requires : tie.Need-widen-requires
 widen-requires c κs = accepted-small _ (c .before .before .before .pre .accepted)
 
+mul-forget : tie.Need-mul-forget
+mul-forget c = record { fits = rw (c .before .before .work-words .ensures) (from-fits (sets-room (c .before .before .before .before .before .args .table .now) (c .before .widen .result) (c .before .before .before .before .before .pre) (c .before .widen .ensures)) (omega (arith, c .before .before .before .before .before .good .1 .1 .1 .1 .0))) }
+
 array-share-prefix-entries : tie.Need-array-share-prefix-entries
-array-share-prefix-entries c = omega (arith, accepted-small _ (c .before .before .before .before .pre .accepted))
+array-share-prefix-entries c = omega (arith, accepted-small _ (c .before .before .before .before .before .before .before .before .pre .accepted))
 
 slice-aggregate-satisfiable : tie.Need-slice-aggregate-satisfiable
-slice-aggregate-satisfiable c = sym (length-take-le _ (c .before .widen .result) (array-share-prefix-entries (c .before)))
+slice-aggregate-satisfiable c = sym (length-take-le _ (c .before .before .before .before .before .widen .result) (array-share-prefix-entries (c .before)))
 
 satisfiable-requires : tie.Need-satisfiable-requires
 satisfiable-requires c κs =
-    let asked = c .before .before .before .before .before .before .pre in
-    let held = c .before .before .widen .ensures in
-    rw (sym (slice-aggregate-satisfiable (c .before)), c .before .before .before .work-words .ensures)
-    (record { sets = sets-asked _ (c .before .before .widen .result) asked held; room = sets-room _ (c .before .before .widen .result) asked held })
+    let start = c .before .before .before .before .before .before .before .before .before .before in
+    let table = start .args .table .now in
+    let entries = c .before .before .before .before .before .before .widen .result in
+    let held = c .before .before .before .before .before .before .widen .ensures in
+    let entry = wideAt (take (size table) entries) in
+    rw (sym (slice-aggregate-satisfiable (c .before)), c .before .before .before .before .before .before .before .work-words .ensures)
+    (record {
+      sets = sets-asked table entries (start .pre) held;
+      room = room-kept (c .before .before .before .before .forget .kept .0) (sets-room table entries (start .pre) held);
+      memory = memory-to entry (start .args .depth) (tableWork table 0 / 2) (c .before .before .before .before .forget .last .0) (rw (c .before .before .before .before .before .before .before .work-words .ensures) at (c .before .before .before .before .forget .ensures .memory entry));
+    })
 
 returns : tie.Need-returns
 returns c =
-    sets-answer _ (c .before .before .before .before .before .widen .result) (c .before .before .before .before .before .before .before .before .before .pre) (c .before .before .before .before .before .widen .ensures) (c .before .before .satisfiable .result) (c .before .before .satisfiable .ensures)
+    sets-answer _ (c .before .before .before .before .before .before .before .before .before .widen .result) (c .before .before .before .before .before .before .before .before .before .before .before .before .before .pre) (c .before .before .before .before .before .before .before .before .before .widen .ensures) (c .before .before .satisfiable .result) (c .before .before .satisfiable .ensures)
 
 pub ask-spec : {M : Type 1} → statement M
 ask-spec =
@@ -37,6 +54,9 @@ ask-spec =
     (tie.spec
     work-words-requires
     widen-requires
+    (λ c. search needs)
+    mul-forget
+    (λ c κs. search needs)
     array-share-prefix-entries
     slice-aggregate-satisfiable
     satisfiable-requires

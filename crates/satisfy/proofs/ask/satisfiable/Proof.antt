@@ -18,10 +18,10 @@ settled : (c : tie.After-v)
 settled c = rw (c .v .given .1) at (c .before .before .settle .ensures)
 
 world-requires : tie.Need-world-requires
-world-requires c κs = record { ready = settled (c .before .before) .ready; small = omega arith; room = c .before .before .before .before .before .before .before .pre .room }
+world-requires c κs = record { ready = settled (c .before .before) .ready; small = omega arith; room = c .before .before .before .before .before .before .before .pre .room; memory = c .before .before .before .before .before .before .before .pre .memory }
 
 returns : tie.Need-returns
-returns c = settling-answer (settled (c .before .before .before .before .before)) (c .before .before .world .result) (c .before .before .world .ensures)
+returns c = settling-answer (settled (c .before .before .before .before .before)) (c .before .before .world .result) (c .before .before .world .ensures .0)
 
 returns-2 : tie.Need-returns-2
 returns-2 c = rw (c .enum-told .given .1) at (c .before .before .settle .ensures)
