@@ -7,5 +7,3 @@ pub mod Slots
 pub mod Measures
 -- the search stands in the words
 pub mod Standing
--- words that are lent on between two steps
-pub mod Lent

@@ -4,7 +4,7 @@ use mathlib.Core.Path.{_≡_, refl, sym, ap, _∙_}
 use mathlib.Core.Bool.{Bool, true, false, not, false≢true}
 use mathlib.Core.Logic.{⊎-elim}
 use mathlib.Core.List.{List}
-use Prim.Native.Nat.{ℕ, suc, _-_, _*_, _<_, _≤_}
+use Prim.Native.Nat.{ℕ, suc, _-_, _<_, _≤_}
 use native.Mathlib.Nat.{le-refl}
 use native.Mathlib.Omega.{arith}
 use lib.ListN.{length, take, drop, length-drop}
@@ -25,10 +25,6 @@ use Rattle.tableau.proofs.Tests.{one-of, both-parts}
 use Rattle.tableau.proofs.Bounds.{bound-cases}
 use Rattle.counting.specs.declared.question.Question.{Question}
 use Rattle.counting.specs.Question.{Small}
-use Rattle.counting.specs.declared.Cursor.{Cursor}
-use Rattle.counting.specs.Search.{Asked, toDo}
-use Rattle.counting.proofs.Standing.{standing-bound}
-use Rattle.counting.proofs.Lent.{asked-kept, to-do-kept}
 use Rattle.wants.specs.declared.Wants.{Wants}
 use Rattle.wants.proofs.Members.{count-removed}
 use Rattle.satisfy.specs.World.{SatW, Ready}
@@ -155,15 +151,3 @@ promised-unfit P promises none fit = none (fit .feasible)
 
 pub within-same : {p q r : ℕ → Bool} → q ≡ r → Within p q → Within p r
 within-same is within i h = sym (ap (λ (s : ℕ → Bool). s i) is) ∙ within i h
-
--- a search goes on behind a call that kept the words of the level
-module _ (P : Problem) (all : Set) (words others : List ℕ) (c : Cursor) (m : ℕ) {depth level : ℕ} (asked : Asked P all words c m)
-    (room : Roomy (P .entry) (P .n) depth level (length words)) (as-many : length others ≡ length words) (same : take level others ≡ take level words) where
-  level-fits : 2 * c .slots ≤ level
-  level-fits = omega (arith, standing-bound (asked .at .standing), room .stack)
-
-  pub still-asked : Asked P all others c m
-  still-asked = asked-kept words others as-many level same c level-fits asked
-
-  pub still-to-do : toDo others c ≡ toDo words c
-  still-to-do = to-do-kept words others as-many level same c level-fits
