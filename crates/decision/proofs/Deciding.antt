@@ -3,7 +3,8 @@ use mathlib.Core.Path.{_≡_, refl, sym, ap, _∙_}
 use mathlib.Core.Bool.{not, _||_}
 use mathlib.Core.List.{List, _++_}
 use Prim.Native.Nat.{ℕ, suc, _+_, _-_, _%_, _<_, _≤_}
-use native.Mathlib.Nat.{not-suc-le-zero}
+use native.Mathlib.Nat.{not-suc-le-zero, eq-or-lt-of-le, le-of-suc-le-suc}
+use mathlib.Core.Logic.{_⊎_, inl, inr, ⊎-elim}
 use native.Mathlib.Omega.{arith}
 use lib.Dec.{eqb, ltb}
 use lib.ListN.{length, getD, set, take, drop, length-set}
@@ -44,6 +45,15 @@ cleared-next {n} {before} {after} cleared room = record {
   zero = fill-below (λ i. 0) (λ i. getD before i 0) n after (cleared .zero) (cleared .rest) room;
   rest = fill-behind (λ i. 0) (λ i. getD before i 0) n after (cleared .zero) (cleared .rest);
 }
+
+-- a word that is 0 already may stay
+pub cleared-either : {n : ℕ} {before old after : List ℕ} → Cleared n before old → n < length old → (after ≡ set old n 0) ⊎ ((getD old n 0 ≡ 0) × (after ≡ old)) → Cleared (suc n) before after
+cleared-either cleared room (inl written) = rw written (cleared-next cleared room)
+cleared-either {n} {before} {old} cleared room (inr kept) = rw (kept .1) (record {
+  same-length = cleared .same-length;
+  zero = λ i h. ⊎-elim (λ (e : i ≡ n). rw e (kept .0)) (λ (less : i < n). cleared .zero i less) (eq-or-lt-of-le (le-of-suc-le-suc h));
+  rest = λ i h. cleared .rest i (omega arith);
+})
 
 -- words of which the first n were worked in, then cleared
 pub cleared-over : (n : ℕ) (worked before : List ℕ) {after : List ℕ} → length worked ≡ length (take n before) → n ≤ length before → Cleared n (worked ++ drop n before) after

@@ -10,14 +10,16 @@ ghost use Rattle.decision.specs.Call.{pairVerdict, Cleared};
 use faults::Fault;
 use faults::Verdict;
 
-// Writes 0 into the first n words.
+// Makes the first n words 0. Only those that are not are written, which is quicker where most are 0.
 pub fn clear(words: &mut [u64], n: usize)
     requires { ⌜ n ≤ length (now words) ⌝ }
     ensures { λ r. ⌜ Cleared n (now (words .entry)) (now (words .exit)) ⌝ }
 {
     let mut i = 0;
     while i < n {
-        words[i] = 0;
+        if words[i] != 0 {
+            words[i] = 0;
+        }
         i += 1;
     }
 }

@@ -14,17 +14,6 @@ module _ {entry : ℕ → Entry} {yes no promises : ℕ → Bool} where
       record { structure = here .structure; world = here .world; inside = here .inside; keeps = λ c i p. here .keeps c i (within i p) }
 
   module _ {yes′ no′ : ℕ → Bool} where
-    -- where nothing is wanted but the parts of what is promised
-    pub feasible-sat : ((c : Bool) (j : ℕ) → wanted yes′ no′ c j ≡ true
-        → (i : ℕ) × (promises i ≡ true) × (bound yes no (entry i) i c ≡ true) × (entry i .first ≡ j))
-        → Feasible entry yes no promises → Sat entry yes′ no′
-    feasible-sat parts here = record {
-      structure = here .structure;
-      world = here .world;
-      inside = here .inside;
-      meets = record { as-wanted = λ c j h. let (i, p, d, e) = parts c j h in rw (← e) (here .keeps c i p d) };
-    }
-
     -- where all of them are wanted
     pub sat-feasible : ((c : Bool) (i : ℕ) → promises i ≡ true → bound yes no (entry i) i c ≡ true → wanted yes′ no′ c (entry i .first) ≡ true)
         → Sat entry yes′ no′ → Feasible entry yes no promises
