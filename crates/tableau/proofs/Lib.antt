@@ -33,5 +33,7 @@ pub mod Potential
 pub mod Stack
 -- a need and a limit that exclude each other
 pub mod Opposed
+-- refutation by weights
+pub mod Weights
 -- the search step by step
 pub mod Searching

@@ -5,3 +5,5 @@ pub mod Wants
 pub mod Counting
 -- the search for a solution
 pub mod Search
+-- weights that refute a problem
+pub mod Weights

@@ -1,0 +1,123 @@
+-- Weights that refute a problem leave it no solution.
+-- Why: weighed and rounded, every successor serves no more than it costs, but more is asked for than is allowed.
+use mathlib.Core.Path.{_≡_, refl, sym, ap, _∙_}
+use mathlib.Core.Bool.{Bool, true, false, not}
+use mathlib.Core.List.{List, [], _∷_}
+use Prim.Native.Nat.{ℕ, zero, suc, _+_, _-_, _*_, _/_, _<_, _≤_}
+use native.Mathlib.Nat.{le-refl, le-of-suc-le-suc, add-le-add, mul-le-mul, mul-add, mul-suc, mul-comm, mul-left-comm, mul-assoc, mul-zero, zero-mul, zero-lt-suc, mul-one, lt-of-mul-lt-mul-left, div-add-mod, mod-lt}
+use native.Mathlib.Omega.{arith}
+use Rattle.semantics.specs.Structure.{bit}
+use Rattle.semantics.proofs.Successors.{gain}
+use Rattle.tableau.specs.Counting.{Row, total, All, lo, hi, served, spent}
+use Rattle.tableau.specs.Search.{Problem, FitRow, Solvable}
+use Rattle.tableau.specs.Weights.{sum, up, serves, costs, Refuted}
+
+-- all successors of the rows, each with the weight of its row
+unfoldable weigh : (Row → ℕ) → List Row → ℕ
+weigh f [] = 0
+weigh f (row ∷ rows) = row .copies * f row + weigh f rows
+
+sum-mono : {f g : ℕ → ℕ} (n : ℕ) → ((i : ℕ) → f i ≤ g i) → sum f n ≤ sum g n
+unfolding sum
+sum-mono zero h = le-refl 0
+sum-mono (suc n) h = add-le-add (h n) (sum-mono n h)
+
+gain-bit : (b : Bool) (c : ℕ) → gain b c ≡ c * bit b
+gain-bit true c = sym (mul-one c)
+gain-bit false c = sym (mul-zero c)
+
+-- one more row
+one-more : (y c t : ℕ) (b : Bool) → y * (gain b c + t) ≡ c * (y * bit b) + y * t
+one-more y c t b =
+    mul-add y (gain b c) t ∙ ap (λ (k : ℕ). k + y * t) (ap (λ (k : ℕ). y * k) (gain-bit b c) ∙ sym (mul-assoc y c (bit b)) ∙ ap (λ (k : ℕ). k * bit b) (mul-comm y c) ∙ mul-assoc c y (bit b))
+
+sum-row : (y : ℕ → ℕ) (p : ℕ → Row → Bool) (row : Row) (rows : List Row) (n : ℕ)
+    → sum (λ i. y i * total (p i) (row ∷ rows)) n ≡ row .copies * sum (λ i. y i * bit (p i row)) n + sum (λ i. y i * total (p i) rows) n
+unfolding sum total
+sum-row y p row rows zero = sym (ap (λ (k : ℕ). k + 0) (mul-zero (row .copies)))
+sum-row y p row rows (suc n) =
+    omega (
+      arith,
+      one-more (y n) (row .copies) (total (p n) rows) (p n row),
+      sum-row y p row rows n,
+      mul-add (row .copies) (y n * bit (p n row)) (sum (λ i. y i * bit (p i row)) n),
+    )
+
+sum-nothing : (y : ℕ → ℕ) (p : ℕ → Row → Bool) (n : ℕ) → sum (λ i. y i * total (p i) []) n ≡ 0
+unfolding sum total
+sum-nothing y p zero = refl
+sum-nothing y p (suc n) = omega (arith, mul-zero (y n), sum-nothing y p n)
+
+-- the weighed tallies are the weighed successors
+weigh-sum : (y : ℕ → ℕ) (p : ℕ → Row → Bool) (n : ℕ) (rows : List Row) → sum (λ i. y i * total (p i) rows) n ≡ weigh (λ row. sum (λ i. y i * bit (p i row)) n) rows
+unfolding weigh
+weigh-sum y p n [] = sum-nothing y p n
+weigh-sum y p n (row ∷ rows) = omega (arith, sum-row y p row rows n, weigh-sum y p n rows)
+
+weigh-mono : (f g : Row → ℕ) (rows : List Row) → All (λ row. f row ≤ g row) rows → weigh f rows ≤ weigh g rows
+unfolding weigh
+weigh-mono f g [] all = le-refl 0
+weigh-mono f g (row ∷ rows) all = add-le-add (mul-le-mul (le-refl (row .copies)) (all .0)) (weigh-mono f g rows (all .1))
+
+module _ {r : ℕ} (pos : 0 < r) where
+  below-up : (x : ℕ) → x ≤ r * up x r
+  below-up x = omega (arith, div-add-mod (x + (r - 1)) r, mod-lt (x + (r - 1)) pos)
+
+  above-down : (x : ℕ) → r * (x / r) ≤ x
+  above-down x = omega (arith, div-add-mod x r)
+
+  up-least : (x k : ℕ) → x ≤ r * k → up x r ≤ k
+  up-least x k h =
+      let less : r * up x r < r * suc k = omega (arith, div-add-mod (x + (r - 1)) r, mul-suc r k) in
+      le-of-suc-le-suc (lt-of-mul-lt-mul-left r less)
+
+  down-greatest : (x k : ℕ) → r * k ≤ x → k ≤ x / r
+  down-greatest x k h =
+      let less : r * k < r * suc (x / r) = omega (arith, div-add-mod x r, mod-lt x pos, mul-suc r (x / r)) in
+      le-of-suc-le-suc (lt-of-mul-lt-mul-left r less)
+
+  weigh-up : (f : Row → ℕ) (rows : List Row) → weigh f rows ≤ r * weigh (λ row. up (f row) r) rows
+  unfolding weigh
+  weigh-up f [] = omega arith
+  weigh-up f (row ∷ rows) =
+      let c = row .copies in
+      let u = up (f row) r in
+      let w = weigh (λ row. up (f row) r) rows in
+      omega (arith, mul-le-mul (le-refl c) (below-up (f row)), mul-left-comm c r u, mul-add r (c * u) w, weigh-up f rows)
+
+  weigh-down : (f : Row → ℕ) (rows : List Row) → r * weigh (λ row. f row / r) rows ≤ weigh f rows
+  unfolding weigh
+  weigh-down f [] = omega (arith, mul-zero r)
+  weigh-down f (row ∷ rows) =
+      let c = row .copies in
+      let u = f row / r in
+      let w = weigh (λ row. f row / r) rows in
+      omega (arith, mul-le-mul (le-refl c) (above-down (f row)), mul-left-comm c r u, mul-add r (c * u) w, weigh-down f rows)
+
+-- a weight counts only where there is one
+weighed : (k x y : ℕ) → (0 < k → x ≤ y) → k * x ≤ k * y
+weighed zero x y h = omega (arith, zero-mul x, zero-mul y)
+weighed (suc k) x y h = mul-le-mul (le-refl (suc k)) (h (zero-lt-suc k))
+
+module _ (P : Problem) (a b : ℕ → ℕ) (r : ℕ) (weights : Refuted P a b r) where
+  rows-weighed : (rows : List Row) → All (FitRow P) rows → All (λ row. up (serves P a row) r ≤ costs P b row / r) rows
+  rows-weighed [] all = all
+  rows-weighed (row ∷ rows) all = (weights .rows row (all .0), rows-weighed rows (all .1))
+
+  pub refuted : Solvable P → ⊥
+  refuted s =
+      let rows = s .rows in
+      let asked = sum (λ i. a i * lo (P .entry i)) (P .n) in
+      let allowed = sum (λ j. b j * hi (P .entry j)) (P .n) in
+      let met : asked ≤ sum (λ i. a i * served i rows) (P .n) =
+      sum-mono (P .n) (λ i. weighed (a i) _ _ (λ h. s .met i (weights .needs i h .bounds) (weights .needs i h .here))) in
+      let kept : sum (λ j. b j * spent j rows) (P .n) ≤ allowed =
+      sum-mono (P .n) (λ j. weighed (b j) _ _ (λ h. s .kept j (weights .limits j h .bounds) (weights .limits j h .here))) in
+      let served-weight = weigh-sum a (λ i row. row .promises i) (P .n) rows in
+      let spent-weight = weigh-sum b (λ j row. not (row .promises j)) (P .n) rows in
+      let ups = weigh (λ row. up (serves P a row) r) rows in
+      let downs = weigh (λ row. costs P b row / r) rows in
+      let first : up asked r ≤ ups = up-least (weights .divisor) asked ups (omega (arith, met, served-weight, weigh-up (weights .divisor) (serves P a) rows)) in
+      let second : ups ≤ downs = weigh-mono _ _ rows (rows-weighed rows (s .usable)) in
+      let third : downs ≤ allowed / r = down-greatest (weights .divisor) allowed downs (omega (arith, kept, spent-weight, weigh-down (weights .divisor) (costs P b) rows)) in
+      omega (arith, first, second, third, weights .gap)
