@@ -11,66 +11,10 @@ pub struct Line {
     pub length: usize,
 }
 
-// "refused 0"
-const REFUSED: [u8; 24] = [
-    114,
-    101,
-    102,
-    117,
-    115,
-    101,
-    100,
-    32,
-    48,
-    10,
-    0,
-    0,
-    0,
-    0,
-    0,
-    0,
-    0,
-    0,
-    0,
-    0,
-    0,
-    0,
-    0,
-    0,
-];
-
-// "model 0 answer 0 mark 0"
-const FILLED: [u8; 24] = [
-    109,
-    111,
-    100,
-    101,
-    108,
-    32,
-    48,
-    32,
-    97,
-    110,
-    115,
-    119,
-    101,
-    114,
-    32,
-    48,
-    32,
-    109,
-    97,
-    114,
-    107,
-    32,
-    48,
-    10,
-];
-
 fn refused(number: u8) -> Line
     ensures { λ r. ⌜ Holds (refusedText number) r ⌝ }
 {
-    let mut bytes = REFUSED;
+    let mut bytes = *b"refused 0\n\0\0\0\0\0\0\0\0\0\0\0\0\0\0";
     if number < 10 {
         bytes[8] = 48 + number;
         return Line { bytes, length: 10 };
@@ -91,7 +35,7 @@ fn filled(model: u8, answer: u8, mark: u8) -> Line
     requires { ⌜ (model < 10) × (answer < 10) × (mark < 10) ⌝ }
     ensures { λ r. ⌜ Holds (filledText model answer mark) r ⌝ }
 {
-    let mut bytes = FILLED;
+    let mut bytes = *b"model 0 answer 0 mark 0\n";
     bytes[6] = 48 + model;
     bytes[15] = 48 + answer;
     bytes[22] = 48 + mark;

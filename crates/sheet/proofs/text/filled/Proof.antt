@@ -7,7 +7,7 @@ use Rattle.sheet.proofs.text.filled.Tie as tie
 
 returns : tie.Need-returns
 returns c =
-    let (model, answer, mark) = c .pre in
+    let (model, answer, mark) = c .before .before .pre in
     record { bytes = rw (lt-ltb _ _ model, lt-ltb _ _ answer, lt-ltb _ _ mark) refl; short = search needs }
 
 pub filled-spec : {M : Type 1} → statement M
