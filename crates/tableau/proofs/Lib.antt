@@ -33,6 +33,8 @@ pub mod Potential
 pub mod Stack
 -- a need and a limit that exclude each other
 pub mod Opposed
+-- a list of sets that stands for all
+pub mod Listed
 -- refutation by weights
 pub mod Weights
 -- the search step by step

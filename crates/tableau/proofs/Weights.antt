@@ -9,8 +9,10 @@ use native.Mathlib.Omega.{arith}
 use Rattle.semantics.specs.Structure.{bit}
 use Rattle.semantics.proofs.Successors.{gain}
 use Rattle.tableau.specs.Counting.{Row, total, All, lo, hi, served, spent}
-use Rattle.tableau.specs.Search.{Problem, FitRow, Solvable}
+use Rattle.tableau.specs.Search.{Slot, rowsOf, Each, Problem, Met, Kept, Solvable}
+use Rattle.tableau.specs.Listed.{In, Covers}
 use Rattle.tableau.specs.Weights.{sum, up, serves, costs, Refuted}
+use Rattle.tableau.proofs.Listed.{listed-solution}
 
 -- all successors of the rows, each with the weight of its row
 unfoldable weigh : (Row → ℕ) → List Row → ℕ
@@ -99,25 +101,28 @@ weighed : (k x y : ℕ) → (0 < k → x ≤ y) → k * x ≤ k * y
 weighed zero x y h = omega (arith, zero-mul x, zero-mul y)
 weighed (suc k) x y h = mul-le-mul (le-refl (suc k)) (h (zero-lt-suc k))
 
-module _ (P : Problem) (a b : ℕ → ℕ) (r : ℕ) (weights : Refuted P a b r) where
-  rows-weighed : (rows : List Row) → All (FitRow P) rows → All (λ row. up (serves P a row) r ≤ costs P b row / r) rows
-  rows-weighed [] all = all
-  rows-weighed (row ∷ rows) all = (weights .rows row (all .0), rows-weighed rows (all .1))
+module _ (P : Problem) (list : List ℕ) (a b : ℕ → ℕ) (r : ℕ) (weights : Refuted P list a b r) where
+  slots-weighed : (slots : List Slot) → Each (λ c. In c list) slots → All (λ row. up (serves P a (row .promises)) r ≤ costs P b (row .promises) / r) (rowsOf slots)
+  slots-weighed [] each = each
+  slots-weighed (s ∷ slots) each = (weights .sets (s .code) (each .0), slots-weighed slots (each .1))
 
-  pub refuted : Solvable P → ⊥
-  refuted s =
-      let rows = s .rows in
+  no-slots : (slots : List Slot) → Each (λ c. In c list) slots → Met P slots → Kept P slots → ⊥
+  no-slots slots each all-met all-kept =
+      let rows = rowsOf slots in
       let asked = sum (λ i. a i * lo (P .entry i)) (P .n) in
       let allowed = sum (λ j. b j * hi (P .entry j)) (P .n) in
-      let met : asked ≤ sum (λ i. a i * served i rows) (P .n) =
-      sum-mono (P .n) (λ i. weighed (a i) _ _ (λ h. s .met i (weights .needs i h .bounds) (weights .needs i h .here))) in
-      let kept : sum (λ j. b j * spent j rows) (P .n) ≤ allowed =
-      sum-mono (P .n) (λ j. weighed (b j) _ _ (λ h. s .kept j (weights .limits j h .bounds) (weights .limits j h .here))) in
+      let met : asked ≤ sum (λ i. a i * served i rows) (P .n) = sum-mono (P .n) (λ i. weighed (a i) _ _ (λ h. all-met .met i (weights .needs i h))) in
+      let kept : sum (λ j. b j * spent j rows) (P .n) ≤ allowed = sum-mono (P .n) (λ j. weighed (b j) _ _ (λ h. all-kept .kept j (weights .limits j h))) in
       let served-weight = weigh-sum a (λ i row. row .promises i) (P .n) rows in
       let spent-weight = weigh-sum b (λ j row. not (row .promises j)) (P .n) rows in
-      let ups = weigh (λ row. up (serves P a row) r) rows in
-      let downs = weigh (λ row. costs P b row / r) rows in
-      let first : up asked r ≤ ups = up-least (weights .divisor) asked ups (omega (arith, met, served-weight, weigh-up (weights .divisor) (serves P a) rows)) in
-      let second : ups ≤ downs = weigh-mono _ _ rows (rows-weighed rows (s .usable)) in
-      let third : downs ≤ allowed / r = down-greatest (weights .divisor) allowed downs (omega (arith, kept, spent-weight, weigh-down (weights .divisor) (costs P b) rows)) in
+      let ups = weigh (λ row. up (serves P a (row .promises)) r) rows in
+      let downs = weigh (λ row. costs P b (row .promises) / r) rows in
+      let first : up asked r ≤ ups =
+      up-least (weights .divisor) asked ups (omega (arith, met, served-weight, weigh-up (weights .divisor) (λ row. serves P a (row .promises)) rows)) in
+      let second : ups ≤ downs = weigh-mono _ _ rows (slots-weighed slots each) in
+      let third : downs ≤ allowed / r =
+      down-greatest (weights .divisor) allowed downs (omega (arith, kept, spent-weight, weigh-down (weights .divisor) (λ row. costs P b (row .promises)) rows)) in
       omega (arith, first, second, third, weights .gap)
+
+  pub refuted : Covers P list → Solvable P → ⊥
+  refuted covers s = let (slots, each, met, kept) = listed-solution P list covers s in no-slots slots each met kept

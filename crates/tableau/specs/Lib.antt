@@ -5,5 +5,7 @@ pub mod Wants
 pub mod Counting
 -- the search for a solution
 pub mod Search
+-- a list of sets that stands for all
+pub mod Listed
 -- weights that refute a problem
 pub mod Weights

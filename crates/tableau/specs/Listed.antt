@@ -1,0 +1,20 @@
+-- A list of sets of promises that stands for all: whatever a successor may promise, some listed one promises no less.
+use mathlib.Core.Path.{_≡_}
+use mathlib.Core.Logic.{_⊎_}
+use mathlib.Core.Bool.{true}
+use mathlib.Core.List.{List, [], _∷_}
+use Prim.Native.Nat.{ℕ}
+use Rattle.sets.specs.Set.{Within}
+use Rattle.sets.specs.Word.{bitAt}
+use Rattle.tableau.specs.Counting.{Row}
+use Rattle.tableau.specs.Search.{Problem, Asks, FitRow, Fit}
+
+-- the number stands in the list
+abbrev pub In : ℕ → List ℕ → Type 0
+In b [] = ⊥
+In b (c ∷ list) = (b ≡ c) ⊎ In b list
+
+-- the sets with the listed codes are fit, and a row that serves a need promises no more than one of them
+pub record Covers (P : Problem) (list : List ℕ) : Type 0 where
+  pub fit : (b : ℕ) → In b list → Fit P b
+  pub above : (row : Row) → FitRow P row → (i : ℕ) → Asks P true i → row .promises i ≡ true → (b : ℕ) × In b list × Within (row .promises) (bitAt b)
