@@ -46,7 +46,7 @@ pub record Stored (from : ℕ) (yes no : ℕ → Bool) (answer : Bool) (before a
   pub same : take from after ≡ take from before
   pub memory : (entry : ℕ → Entry) → Memory entry before from → Answers answer (Sat entry yes no) → Memory entry after from
 
--- the words of the slots are 0, and those before them are as they were
+-- nothing is remembered: the slots say nothing, whatever table is asked about
 pub record Forgotten (from : ℕ) (before after : List ℕ) : Type 0 where
   pub same-length : length after ≡ length before
   pub memory : (entry : ℕ → Entry) → Memory entry after from

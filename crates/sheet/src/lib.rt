@@ -49,7 +49,7 @@ fn possible(table: &[u8], e: usize, words: &mut [u64]) -> bool
     }
 }
 
-// What the sheet says of a marking that is a refusal.
+// What the sheet says of a marking that is a refusal. It is asked of no other: what it makes of a mark means nothing.
 fn refusal(marking: Marking) -> Sheet
     ensures { λ r. ⌜ RefusalIs marking r ⌝ }
 {

@@ -1,4 +1,4 @@
--- A list of sets of promises that stands for all: whatever a successor may promise, some listed one promises no less.
+-- A list of sets of promises that stands for all: whatever a successor that serves a need may promise, some listed one promises no less.
 use mathlib.Core.Path.{_≡_}
 use mathlib.Core.Logic.{_⊎_}
 use mathlib.Core.Bool.{true}
