@@ -7,6 +7,7 @@ ghost use Rattle.table.specs.declared.entry.Entry.{Entry};
 ghost use Rattle.memory.specs.Memory.{mark, Memory, RecallIs, StandsFor, PlaceIs, Stored, Forgotten};
 use packed::word_at;
 use sets::Set;
+use std::num;
 
 // Where a slot begins, if there is room for any.
 pub enum Place {
@@ -20,9 +21,12 @@ pub enum Remembered {
     Nothing,
 }
 
-// A number by which to spread questions over slots.
+// A number by which to spread questions over slots. Every bit of both words has a part in it: sets that differ in high
+// members only would else meet in one slot, and each would be answered again and again.
 fn spread(yes: u64, no: u64) -> u64 {
-    yes ^ (yes >> 29) ^ (no << 17) ^ (no >> 13) ^ (no << 41)
+    let a = (yes % 4294967291) * 2654435769;
+    let b = (no % 4294967279) * 2246822519;
+    num::wrapping_add_u64(a, b) >> 32
 }
 
 fn fewer(a: usize, b: usize) -> usize
