@@ -23,16 +23,16 @@ use Rattle.table.specs.Check.{tableVerdict}
 use Rattle.table.proofs.Accepted.{accepted}
 use Rattle.tableau.specs.Wants.{Answers, truthAt, Sat}
 use Rattle.wide.specs.Wide.{wideAt, Widened}
-use Rattle.wide.proofs.Widening.{wide-entry, wide-formed, wide-formula}
+use Rattle.wide.proofs.Widening.{wide-weight, wide-formed, wide-formula}
 use Rattle.satisfy.specs.Asking.{Roomy}
 use Rattle.satisfy.specs.Sets.{SetsAsked}
 use Rattle.decision.specs.Ask.{TableAsked}
 use Rattle.decision.proofs.Deciding.{accepted-small}
 
-grades-ext : {entry entry′ : ℕ → Entry} (n : ℕ) → ((i : ℕ) → i < n → entry i ≡ entry′ i) → gradeSum entry n ≡ gradeSum entry′ n
+grades-ext : (entry entry′ : ℕ → Entry) (n : ℕ) → ((i : ℕ) → i < n → weight (entry i) ≡ weight (entry′ i)) → gradeSum entry n ≡ gradeSum entry′ n
 unfolding gradeSum
-grades-ext zero same = refl
-grades-ext (suc n) same = ap₂ _+_ (ap weight (same n (omega arith))) (grades-ext n (λ i l. same i (omega arith)))
+grades-ext entry entry′ zero same = refl
+grades-ext entry entry′ (suc n) same = ap₂ _+_ (same n (omega arith)) (grades-ext entry entry′ n (λ i l. same i (omega arith)))
 
 -- half of W has room for a level at each depth
 half : (d x : ℕ) → suc d * (4 * x) ≤ 8 * (d + 1) * x
@@ -46,7 +46,7 @@ half d x =
 
 module _ (bytes words : List ℕ) {yes no : ℕ → Bool} {d count : ℕ} (asked : TableAsked bytes yes no d count) (held : Widened bytes (size bytes) words) where
   depth-same : (i : ℕ) → i < size bytes → depthAt (wideAt (take (size bytes) words)) i ≡ depthAt (entryAt bytes) i
-  depth-same i inside = ap depth (wide-formula held i inside)
+  depth-same i inside = ap depth (wide-formula held (accepted bytes (asked .accepted)) i inside)
 
   pub sets-asked : SetsAsked (wideAt (take (size bytes) words)) (size bytes) yes no d
   sets-asked = record {
@@ -61,12 +61,12 @@ module _ (bytes words : List ℕ) {yes no : ℕ → Bool} {d count : ℕ} (asked
       let g = gradeSum (entryAt bytes) (size bytes) in
       let same : tableWork bytes 0 / 2 ≡ 4 * (2 * size bytes + g + 4) = omega arith in
       record {
-        stack = omega (arith, grades-ext (size bytes) (wide-entry held));
+        stack = omega (arith, grades-ext (wideAt (take (size bytes) words)) (entryAt bytes) (size bytes) (wide-weight held));
         levels = rw same (omega (arith, half d (2 * size bytes + g + 4), asked .enough));
       }
 
   truth-same : (s : Structure) (w i : ℕ) → i < size bytes → truthAt (wideAt (take (size bytes) words)) s w i ≡ truthAt (entryAt bytes) s w i
-  truth-same s w i inside = ap (λ (φ : Formula). truth s φ w) (wide-formula held i inside)
+  truth-same s w i inside = ap (λ (φ : Formula). truth s φ w) (wide-formula held (accepted bytes (asked .accepted)) i inside)
 
   pub sets-answer : (r : Bool) → Answers r (Sat (wideAt (take (size bytes) words)) yes no) → Answers r (Sat (entryAt bytes) yes no)
   sets-answer true sat = record {

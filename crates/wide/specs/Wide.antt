@@ -1,5 +1,6 @@
 -- The wide layout: an entry in a 64-bit word, with room for more entries, facts and grades than the packed table has.
 use mathlib.Core.Path.{_≡_}
+use mathlib.Core.Logic.{_⊎_}
 use mathlib.Core.List.{List}
 use Prim.Native.Nat.{ℕ, _<_, _≤_}
 use lib.ListN.{getD}
@@ -24,7 +25,19 @@ pub record FitsWide (e : Entry) : Type 0 where
   pub second : e .second < 256
   pub grade : e .grade < 4096
 
--- the words hold the first n entries of a table, and 0 behind them
+-- place j stands for place r among the first n words: it is the same, or an earlier one with the same word
+abbrev pub StandsFor : List ℕ → (n j r : ℕ) → Type 0
+StandsFor words n j r = (j ≡ r) ⊎ ((r < n) × (j ≤ r) × (getD words j 0 ≡ getD words r 0))
+
+-- an entry e, with references to places that stand for its own
+pub record Folded (words : List ℕ) (n : ℕ) (e folded : Entry) : Type 0 where
+  pub kind : folded .kind ≡ e .kind
+  pub name : folded .name ≡ e .name
+  pub grade : folded .grade ≡ e .grade
+  pub first : StandsFor words n (folded .first) (e .first)
+  pub second : StandsFor words n (folded .second) (e .second)
+
+-- the words hold the first n entries of a table, each folded onto those before it, and 0 behind them
 pub record Widened (bytes : List ℕ) (n : ℕ) (words : List ℕ) : Type 0 where
-  pub below : (i : ℕ) → i < n → wideAt words i ≡ entryAt bytes i
+  pub below : (i : ℕ) → i < n → Folded words i (entryAt bytes i) (wideAt words i)
   pub behind : (i : ℕ) → n ≤ i → getD words i 0 ≡ 0

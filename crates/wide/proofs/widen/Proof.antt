@@ -1,5 +1,5 @@
 -- `widen` meets its contract. The invariant: the words hold the entries passed, and 0 behind them.
-use mathlib.Core.Path.{_≡_, refl}
+use mathlib.Core.Path.{_≡_, refl, sym}
 use Prim.Native.Nat.{_-_, _≤_}
 use native.Mathlib.Numerals.{add-one}
 use native.Mathlib.Omega.{arith}
@@ -17,13 +17,14 @@ Inv-loop table n words₀ i₀ words i = (i ≤ n) × (length words ≡ 64) × W
 abbrev μ-loop : tie.MeasureT-loop
 μ-loop table n words₀ i₀ words i = n - i
 
-pack-requires : tie.Need-pack-requires Inv-loop μ-loop
-pack-requires c κs = rw (c .entry-at .ensures) (packed-fits _ _)
+folded-requires : tie.Need-folded-requires Inv-loop μ-loop
+folded-requires c κs = rw (c .before .entry-at .ensures) (packed-fits _ _)
 
 loop-again : tie.Need-loop-again Inv-loop μ-loop
 loop-again c =
-    let l = c .before .before .before .loop in
-    (search needs, simp length-set (l .inv .1), rw add-one (widened-next (l .inv .2) _ (omega arith) (cc)))
+    let l = c .before .before .before .before .before .loop in
+    let e = rw (c .before .before .before .entry-at .ensures) at (c .before .folded .ensures .0) in
+    (search needs, simp length-set (l .inv .1), rw add-one (widened-next (l .inv .2) _ (omega arith) (rw (c .pack .ensures) e)))
 
 returns : tie.Need-returns Inv-loop μ-loop
 returns c =
@@ -38,7 +39,9 @@ widen-spec =
     μ-loop
     (λ c. (search needs, refl, widened-none _ 64))
     (λ c κs. search needs)
-    pack-requires
+    (λ c. sym (c .before .before .before .loop .inv .1))
+    folded-requires
+    (λ c κs. c .folded .ensures .1)
     (λ c. search needs)
     (λ c. search needs)
     (λ c. search needs)
