@@ -39,6 +39,7 @@ put-made words k b m room =
           (getD-set-other once (2 * k + 1) (2 * k) m 0 (omega arith) ∙ getD-set-same words (2 * k) b 0 (omega arith))
           (getD-set-same once (2 * k + 1) m 0 (simp length-set (omega arith)));
       below = λ j l. ap₂ taken (earlier (2 * j) (omega arith)) (earlier (2 * j + 1) (omega arith));
+      behind = λ i l. getD-set-other once (2 * k + 1) i m 0 (omega arith) ∙ getD-set-other words (2 * k) i b 0 (omega arith);
     }
 
 module _ {words after : List ℕ} {k b m : ℕ} (put : Put words k b m after) where

@@ -29,11 +29,11 @@ use Rattle.counting.proofs.Slots.{length-slots, put-slots, put-copies}
 -- ---- room in the words
 
 module _ (P : Problem) (words : List ℕ) (k : ℕ) where
-  serving-bound : Serving P (slotsOf words k) → k ≤ gradeSum (P .entry) (P .n)
+  pub serving-bound : Serving P (slotsOf words k) → k ≤ gradeSum (P .entry) (P .n)
   serving-bound serving = omega (arith, length-slots words k, slots-bound P (slotsOf words k) serving)
 
   -- one slot more
-  serving-more : {b m : ℕ} → Serving P (taken b m ∷ slotsOf words k) → suc k ≤ gradeSum (P .entry) (P .n)
+  pub serving-more : {b m : ℕ} → Serving P (taken b m ∷ slotsOf words k) → suc k ≤ gradeSum (P .entry) (P .n)
   unfolding length
   serving-more {b} {m} serving = omega (arith, length-slots words k, slots-bound P (taken b m ∷ slotsOf words k) serving)
 
@@ -41,16 +41,20 @@ pub standing-bound : {P : Problem} {all : Set} {words : List ℕ} {k t : ℕ} �
 standing-bound {P} {words = words} {k = k} s = serving-bound P words k (s .searching .serving)
 
 -- a wide entry's grade is below 4096
-pub standing-few : (entries : List ℕ) (q : Question) {all : Set} {words : List ℕ} {k t : ℕ} → Standing (problemOf entries q) all words k t → Few words k
-standing-few entries q s = record {
+pub serving-few : (entries : List ℕ) (q : Question) (words : List ℕ) (k : ℕ) → Small (problemOf entries q) → Serving (problemOf entries q) (slotsOf words k)
+    → FewCopies words k → Few words k
+serving-few entries q words k small serving copies = record {
   slots = omega (
     arith,
-    standing-bound s,
-    s .problem .few,
+    serving-bound (problemOf entries q) words k serving,
+    small .few,
     gradeSum-under 4096 (wideAt entries) (λ i. omega arith) (length entries),
   );
-  copies = s .copies;
+  copies = copies;
 }
+
+pub standing-few : (entries : List ℕ) (q : Question) {all : Set} {words : List ℕ} {k t : ℕ} → Standing (problemOf entries q) all words k t → Few words k
+standing-few entries q {words = words} {k = k} s = serving-few entries q words k (s .problem) (s .searching .serving) (s .copies)
 
 module _ {P : Problem} {all : Set} {words : List ℕ} {k : ℕ} where
   pub standing-space : {b m t : ℕ} → Standing P all words k t → 0 < m → Useful P (slotsOf words k) b m → 2 * k + 2 ≤ length words

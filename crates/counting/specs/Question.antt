@@ -5,6 +5,7 @@ use mathlib.Core.List.{List}
 use Prim.Native.Nat.{ℕ, _<_, _≤_}
 use lib.Dec.{eqb}
 use lib.ListN.{length}
+use Rattle.sets.specs.declared.Set.{Set}
 use Rattle.sets.specs.Set.{member}
 use Rattle.table.specs.declared.entry.Entry.{Entry}
 use Rattle.wide.specs.Wide.{wideAt}
@@ -32,3 +33,12 @@ pub record Exceeds (P : Problem) (i j : ℕ) : Type 0 where
   pub need : Asks P true i
   pub limit : Asks P false j
   pub more : hi (P .entry j) < lo (P .entry i)
+
+-- of some entries, no need is in the set
+pub record NoNeed (P : Problem) (set : Set) (among : ℕ → Type 0) : Type 0 where
+  pub none : (i : ℕ) → among i → Asks P true i → member set i ≡ true → ⊥
+
+-- entry i is a limit that allows none
+pub record Closed (P : Problem) (i : ℕ) : Type 0 where
+  pub limit : Asks P false i
+  pub none : hi (P .entry i) ≡ 0

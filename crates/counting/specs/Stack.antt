@@ -32,3 +32,4 @@ pub record Put (before : List ℕ) (k b m : ℕ) (after : List ℕ) : Type 0 whe
   pub same-length : length after ≡ length before
   pub here : slotAt after k ≡ taken b m
   pub below : (j : ℕ) → j < k → slotAt after j ≡ slotAt before j
+  pub behind : (i : ℕ) → 2 * k + 2 ≤ i → getD after i 0 ≡ getD before i 0

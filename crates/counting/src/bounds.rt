@@ -1,6 +1,6 @@
 // What the slots leave unmet, what room they leave, and how many copies of a set are of use.
 ghost use mathlib.Core.Path.{_≡_};
-ghost use Prim.Native.Nat.{_<_, min, max};
+ghost use Prim.Native.Nat.{_<_, _≤_, min, max};
 ghost use lib.ListN.{length};
 ghost use Rattle.sets.specs.Set.{member, code};
 ghost use Rattle.tableau.specs.Wants.{Answers};
@@ -106,4 +106,52 @@ pub fn met(entries: &[u64], q: Question, all: Set, words: &[u64], k: usize) -> b
     ensures { λ r. ⌜ Answers r (Met (problemOf (now (entries .entry)) q) (slotsOf (now (words .entry)) k)) ⌝ }
 {
     lack(entries, q, all, words, k) == 0
+}
+
+// The set with entry i, if the set of it alone lacks something.
+fn with_unmet(entries: &[u64], q: Question, found: Set, words: &[u64], k: usize, i: usize) -> Set
+    requires { ⌜ (i < length (now entries)) × (i < 64) × Few (now words) k ⌝ }
+{
+    if lack_of(entries, q, Set::empty().with(i), words, k, i) == 0 {
+        return found;
+    }
+    found.with(i)
+}
+
+// The needs that lack something. Nothing is promised of them: they only say what to try first.
+pub fn unmet(entries: &[u64], q: Question, words: &[u64], k: usize) -> Set
+    requires { ⌜ (length (now entries) ≤ 64) × Few (now words) k ⌝ }
+{
+    let n = entries.len();
+    let mut found = Set::empty();
+    let mut i = 0;
+    while i < n {
+        found = with_unmet(entries, q, found, words, k, i);
+        i += 1;
+    }
+    found
+}
+
+// The set with entry i, if that is a limit that leaves no room.
+fn with_used_up(entries: &[u64], q: Question, found: Set, words: &[u64], k: usize, i: usize) -> Set
+    requires { ⌜ (i < length (now entries)) × (i < 64) × Few (now words) k × Kept (problemOf (now entries) q) (slotsOf (now words) k) ⌝ }
+{
+    if room_of(entries, q, Set::empty(), words, k, i) == 0 {
+        return found.with(i);
+    }
+    found
+}
+
+// The limits that leave no room. Nothing is promised of them either.
+pub fn used_up(entries: &[u64], q: Question, words: &[u64], k: usize) -> Set
+    requires { ⌜ (length (now entries) ≤ 64) × Few (now words) k × Kept (problemOf (now entries) q) (slotsOf (now words) k) ⌝ }
+{
+    let n = entries.len();
+    let mut found = Set::empty();
+    let mut i = 0;
+    while i < n {
+        found = with_used_up(entries, q, found, words, k, i);
+        i += 1;
+    }
+    found
 }

@@ -1,13 +1,13 @@
 // What is asked of the successors by one relation: which entries are needs, which are limits, and what they ask for.
 ghost use mathlib.Core.Path.{_≡_};
-ghost use mathlib.Core.Bool.{true};
-ghost use Prim.Native.Nat.{_-_, _<_};
+ghost use mathlib.Core.Bool.{true, false};
+ghost use Prim.Native.Nat.{ℕ, _-_, _<_};
 ghost use lib.ListN.{length};
 ghost use Rattle.sets.specs.Set.{member};
 ghost use Rattle.tableau.specs.Wants.{wanted, addedIf};
 ghost use Rattle.tableau.specs.Counting.{bound, speaks, lo, hi};
 ghost use Rattle.tableau.specs.Search.{asking};
-ghost use Rattle.counting.specs.Question.{problemOf, asks, Small, Exceeds};
+ghost use Rattle.counting.specs.Question.{problemOf, asks, Small, Exceeds, NoNeed, Closed};
 use sets::Set;
 use table::entry::Entry;
 use wide::wide_at;
@@ -116,6 +116,61 @@ pub fn asking(entries: &[u64], q: Question) -> Set
     let mut i = 0;
     while i < n {
         found = with_asking(found, wide_at(entries, i), q, i);
+        i += 1;
+    }
+    found
+}
+
+// Whether entry i is a need in the set.
+fn serves_need(entries: &[u64], q: Question, set: Set, i: usize) -> bool
+    requires { ⌜ i < length (now entries) ⌝ }
+    ensures { λ r. ⌜ (r ≡ false → NoNeed (problemOf (now (entries .entry)) q) set (λ j. j ≡ i)) ⌝ }
+{
+    if !set.contains(i) {
+        return false;
+    }
+    asks(wide_at(entries, i), q, i, true)
+}
+
+// Whether a need is in the set.
+pub fn has_need(entries: &[u64], q: Question, set: Set) -> bool
+    ensures { λ r. ⌜ (r ≡ false → NoNeed (problemOf (now (entries .entry)) q) set (λ j. j < length (now (entries .entry)))) ⌝ }
+{
+    let n = entries.len();
+    let mut i = 0;
+    while i < n {
+        if serves_need(entries, q, set, i) {
+            return true;
+        }
+        i += 1;
+    }
+    false
+}
+
+// Whether entry i is a limit that allows none.
+fn allows_none(entries: &[u64], q: Question, i: usize) -> bool
+    requires { ⌜ i < length (now entries) ⌝ }
+    ensures { λ r. ⌜ (r ≡ true → Closed (problemOf (now (entries .entry)) q) i) ⌝ }
+{
+    let e = wide_at(entries, i);
+    if !asks(e, q, i, false) {
+        return false;
+    }
+    most(e) == 0
+}
+
+// The limits that allow none.
+pub fn closed(entries: &[u64], q: Question) -> Set
+    requires { ⌜ Small (problemOf (now entries) q) ⌝ }
+    ensures { λ r. ⌜ ((i : ℕ) → member r i ≡ true → Closed (problemOf (now (entries .entry)) q) i) ⌝ }
+{
+    let n = entries.len();
+    let mut found = Set::empty();
+    let mut i = 0;
+    while i < n {
+        if allows_none(entries, q, i) {
+            found = found.with(i);
+        }
         i += 1;
     }
     found

@@ -1,5 +1,7 @@
 -- the two cases of a split
 pub mod Splitting
+-- what follows without a split
+pub mod Forcing
 -- the promises of a successor, one after the other
 pub mod Promises
 -- the counting entries, entry by entry
@@ -10,6 +12,10 @@ pub mod Worlds
 pub mod Pairs
 -- answers that are kept behind the levels
 pub mod Recalling
+-- slots that are taken greedily
+pub mod Greedy
+-- how the largest sets of promises come to be listed
+pub mod Largest
 -- what the functions that call each other hand to each other
 pub mod Calls
 -- the question through two sets

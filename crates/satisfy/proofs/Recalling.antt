@@ -2,7 +2,7 @@
 use mathlib.Core.Path.{_≡_, sym, ap, _∙_}
 use mathlib.Core.List.{List, _++_}
 use Prim.Native.Nat.{ℕ, suc, _+_, _-_, _*_, _^_, _<_, _≤_}
-use native.Mathlib.Nat.{suc-mul, mul-comm, mul-le-mul, le-refl}
+use native.Mathlib.Nat.{suc-mul, mul-comm, mul-le-mul, le-refl, le-of-eq}
 use native.Mathlib.Numerals.{add-one}
 use native.Mathlib.Omega.{arith}
 use lib.ListN.{length, take, drop}
@@ -14,7 +14,7 @@ use Rattle.memory.proofs.Moved.{memory-front, memory-lent, memory-back}
 use Rattle.satisfy.specs.Asking.{Roomy, Remembers}
 
 -- where the answers begin, as the program computes it
-same-place : (depth level : ℕ) → (depth + 1) * level ≡ suc depth * level
+pub same-place : (depth level : ℕ) → (depth + 1) * level ≡ suc depth * level
 same-place depth level = ap (λ (k : ℕ). k * level) (add-one depth)
 
 module _ {entry : ℕ → Entry} {n depth level words : ℕ} (room : Roomy entry n depth level words) where
@@ -55,3 +55,9 @@ pub next-same : (depth level : ℕ) (after mid before : List ℕ) → take ((dep
 next-same depth level after mid before stored kept =
     let below : level ≤ (depth + 1) * level = omega (arith, same-place depth level, suc-mul depth level) in
     sym (take-take level ((depth + 1) * level) after below) ∙ ap (take level) stored ∙ take-take level ((depth + 1) * level) mid below ∙ kept
+
+-- the words of all levels are lent and come back
+pub memory-levels : (entry : ℕ → Entry) (work front : List ℕ) (depth level : ℕ) → length front ≡ (depth + 1) * level → Remembers entry depth level work
+    → Remembers entry depth level (front ++ drop ((depth + 1) * level) work)
+memory-levels entry work front depth level as-many memory =
+    memory-front entry work front ((depth + 1) * level) (suc depth * level) as-many (le-of-eq (same-place depth level)) memory

@@ -18,8 +18,8 @@ use Rattle.tableau.proofs.Built.{built}
 use Rattle.wants.specs.declared.Wants.{Wants}
 use Rattle.satisfy.specs.World.{SatW, Ready, Branch}
 use Rattle.satisfy.specs.Relation.{counting}
-use Rattle.satisfy.specs.Asking.{Roomy, CaseAnswers, Solving}
-use Rattle.satisfy.proofs.Splitting.{cases}
+use Rattle.satisfy.specs.Asking.{Roomy, CaseAnswers, Solving, AllSolved, CountAnswers}
+use Rattle.satisfy.proofs.Splitting.{waiting, cases}
 
 module _ {entry : ℕ → Entry} {n d depth : ℕ} {w : Wants} where
   -- what the world of a case answers
@@ -33,7 +33,7 @@ module _ {entry : ℕ → Entry} {n d depth : ℕ} {w : Wants} where
   cases-fail ready top one two sat =
       let s = sat .structure in
       let u = sat .world in
-      ⊎-elim (one s u (sat .inside) (sat .meets)) (two s u (sat .inside) (sat .meets)) (cases ready top s u (sat .meets))
+      ⊎-elim (one s u (sat .inside) (sat .meets)) (two s u (sat .inside) (sat .meets)) (cases (waiting ready top) s u (sat .meets))
 
 module _ (entry : ℕ → Entry) (w : Wants) where
   pub solving-none : (p : ℕ → Bool) → p ≡ (λ i. counting w (entry i) i) → Solving entry w p
@@ -58,17 +58,21 @@ module _ (entry : ℕ → Entry) (w : Wants) where
           rw (eqb-true (entry j .name) (entry i .name) named) solution
       by-rest j h true in-rest false here gone = absurd (false≢true (sym gone ∙ rw (in-rest, here)))
 
-  pub solving-done : {n depth : ℕ} {rest : ℕ → Bool} → Ready entry n w 0 depth → Solving entry w rest → rest ≡ nothing → SatW entry w
-  solving-done ready solving none =
-      built (ready .formed) (ready .settled) (λ i. unpending (member (w .pending) i) (λ h. not-suc-le-zero (ready .pending-below i h)))
-      (λ i h. solving .solved i h (ap (λ (q : ℕ → Bool). q i) none))
+  pub solving-done : {rest : ℕ → Bool} → Solving entry w rest → rest ≡ nothing → AllSolved entry w
+  solving-done solving none i h = solving .solved i h (ap (λ (q : ℕ → Bool). q i) none)
+
+  -- where nothing is pending, solutions of all relations are enough
+  pub solved-world : {n depth : ℕ} → Ready entry n w 0 depth → (r : Bool) → CountAnswers entry w r → Answers r (SatW entry w)
+  solved-world ready true all =
+      built (ready .formed) (ready .settled) (λ i. unpending (member (w .pending) i) (λ h. not-suc-le-zero (ready .pending-below i h))) all
     where
       unpending : (x : Bool) → (x ≡ true → ⊥) → x ≡ false
       unpending true h = absurd (h refl)
       unpending false h = refl
+  solved-world ready false none = none
 
   -- a relation without a solution leaves no world
-  pub unsolved : {n depth : ℕ} → Ready entry n w 0 depth → (r : ℕ) → (Solution entry (member (w .yes)) (member (w .no)) r → ⊥) → SatW entry w → ⊥
+  pub unsolved : {n bound depth : ℕ} → Ready entry n w bound depth → (r : ℕ) → (Solution entry (member (w .yes)) (member (w .no)) r → ⊥) → SatW entry w → ⊥
   unsolved ready r none sat = none (solved (ready .formed) (ready .settled .below) sat r)
 
 -- the words of the next depth

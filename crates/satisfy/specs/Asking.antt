@@ -20,9 +20,13 @@ use Rattle.satisfy.specs.World.{SatW, CaseOf, Ready}
 use Rattle.satisfy.specs.Promise.{Promising}
 use Rattle.satisfy.specs.Relation.{counting}
 
--- There are words for this depth: a level of them for each depth down to 0, and a level has room for the stack of a search.
+-- how many sets of promises can be listed for n entries
+abbrev pub listRoom : ℕ → ℕ
+listRoom n = 8 * n + 8
+
+-- There are words for this depth: a level of them for each depth down to 0, and a level has room for the stack of a search and a list of sets.
 pub record Roomy (entry : ℕ → Entry) (n depth level words : ℕ) : Type 0 where
-  pub stack : 2 * gradeSum entry n + 2 ≤ level
+  pub stack : 2 * gradeSum entry n + 2 + listRoom n ≤ level
   pub levels : suc depth * level ≤ words
 
 -- the answers kept behind the levels are right
@@ -49,9 +53,9 @@ module _ (entry : ℕ → Entry) where
   CaseAnswers w d case true = SatW entry w
   CaseAnswers w d case false = (s : Structure) (u : ℕ) → u < s .worlds → MeetsW entry s u w → CaseOf entry case d s u → ⊥
 
-  -- nothing is pending
-  pub record LeafAsked (n : ℕ) (w : Wants) (depth level : ℕ) (work : List ℕ) : Type 0 where
-    pub ready : Ready entry n w 0 depth
+  -- the relations are asked for solutions, whatever is pending
+  pub record CountAsked (n : ℕ) (w : Wants) (depth level : ℕ) (work : List ℕ) : Type 0 where
+    pub ready : Ready entry n w 64 depth
     pub room : Roomy entry n depth level (length work)
     pub memory : Remembers entry depth level work
 
@@ -72,6 +76,15 @@ module _ (entry : ℕ → Entry) where
   pub record Solving (w : Wants) (rest : ℕ → Bool) : Type 0 where
     pub within : Within rest (λ i. counting w (entry i) i)
     pub solved : (i : ℕ) → counting w (entry i) i ≡ true → rest i ≡ false → Solution entry (member (w .yes)) (member (w .no)) (entry i .name)
+
+  -- every relation has a solution
+  abbrev pub AllSolved : Wants → Type 0
+  AllSolved w = (i : ℕ) → counting w (entry i) i ≡ true → Solution entry (member (w .yes)) (member (w .no)) (entry i .name)
+
+  -- yes: every relation has a solution; no: no world is as wanted
+  abbrev pub CountAnswers : Wants → Bool → Type 0
+  CountAnswers w true = AllSolved w
+  CountAnswers w false = SatW entry w → ⊥
 
 module _ (P : Problem) where
   -- a problem at a world of this depth, which is not 0

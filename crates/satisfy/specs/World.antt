@@ -35,6 +35,11 @@ module _ (entry : ℕ → Entry) where
     pub pending-below : (i : ℕ) → member (w .pending) i ≡ true → i < bound
     pub shallow : (c : Bool) (i : ℕ) → wantedW w c i ≡ true → depthAt entry i ≤ depth
 
+  -- entry d is one of those pending
+  pub record Waiting (n : ℕ) (w : Wants) (d bound depth : ℕ) : Type 0 where
+    pub ready : Ready n w bound depth
+    pub here : member (w .pending) d ≡ true
+
   -- v says of the case what w says of all
   pub record Branch (n : ℕ) (case : Bool) (d : ℕ) (w : Wants) (depth : ℕ) (v : Wants) : Type 0 where
     pub ready : Ready n v d depth

@@ -22,7 +22,7 @@ pub fn want(entries: &[u64], e: usize, w: Wants, truth: bool) -> Outcome
 }
 
 // Entry d is pending no more.
-fn lighten(outcome: Outcome, d: usize) -> Outcome
+pub fn lighten(outcome: Outcome, d: usize) -> Outcome
     ensures { λ r. ⌜ Lightened d outcome r ⌝ }
 {
     match outcome {

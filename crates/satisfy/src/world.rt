@@ -1,25 +1,46 @@
 // Whether what is wanted can be had at a world: the functions that call each other. A world splits what is pending, and then
 // asks of each relation whether its needs and limits have a solution; the search for that asks of a set of promises whether a
 // successor can keep them, at a world one less deep, worked in the rest of the lent words.
+ghost use mathlib.Core.Path.{_≡_};
+ghost use mathlib.Core.Bool.{true};
 ghost use Prim.Native.Nat.{_-_};
 ghost use lib.ListN.{length};
+ghost use Rattle.sets.specs.Set.{member, either};
 ghost use Rattle.wide.specs.Wide.{wideAt};
 ghost use Rattle.tableau.specs.Wants.{Answers};
 ghost use Rattle.tableau.specs.Search.{Solvable};
 ghost use Rattle.counting.specs.Question.{problemOf};
 ghost use Rattle.satisfy.specs.World.{SatW};
-ghost use Rattle.satisfy.specs.Asking.{WorldAsked, CaseAsked, CaseAnswers, LeafAsked, ProblemAsked, PromisesAsked, NextAsked, Kept, Opposed, Had, Remembers};
+ghost use Rattle.satisfy.specs.Asking.{WorldAsked, CaseAsked, CaseAnswers, CountAsked, CountAnswers, ProblemAsked, PromisesAsked, NextAsked, Kept, Opposed, Had, Remembers};
+ghost use Rattle.satisfy.specs.Greedy.{GrowAsked, GrownIs, GreedyIs};
+ghost use Rattle.satisfy.specs.Listing.{ListAsked, BranchAsked, ListingIs, CoreAsked, CoreIs, SaidIs};
 use crate::branch::branch;
+use crate::force::force;
+use crate::listing::Listing;
+use crate::listing::Said;
+use crate::listing::also;
+use crate::listing::highest_of;
+use crate::listing::known;
+use crate::listing::narrowed;
+use crate::listing::selected;
+use crate::listing::weighed;
 use crate::promise::pair;
 use crate::promise::promised;
 use crate::relation::counted;
 use crate::relation::question_of;
 use counting::Step;
+use counting::bounds::met;
+use counting::bounds::unmet;
+use counting::bounds::used_up;
+use counting::bounds::useful;
 use counting::question::Question;
 use counting::question::asking;
+use counting::question::closed;
 use counting::question::exceeds;
+use counting::question::has_need;
 use counting::search;
 use counting::skip;
+use counting::stack::put_slot;
 use counting::start;
 use counting::take;
 use memory::Remembered;
@@ -30,11 +51,32 @@ use sets::Set;
 use wants::Outcome;
 use wants::Wants;
 
-// Whether some world is as wanted. What is pending is below the bound.
+// Whether some world is as wanted. What is pending is below the bound. What follows without a split comes first.
 pub fn world(
     entries: &[u64],
     w: Wants,
     bound: usize,
+    known: Set,
+    depth: usize,
+    level: usize,
+    work: &mut [u64],
+) -> bool
+    requires { ⌜ WorldAsked (wideAt (now entries)) (length (now entries)) w bound depth level (now work) ⌝ }
+    ensures { λ r. ⌜ Answers r (SatW (wideAt (now (entries .entry))) w) × Remembers (wideAt (now (entries .entry))) depth level (now (work .exit)) ⌝ }
+{
+    match force(entries, w, bound, depth) {
+        Outcome::Settled(v) => split(entries, v, bound, known, depth, level, work),
+        Outcome::Clash => false,
+    }
+}
+
+// The same, by a split of the highest pending entry. Before it the relations are asked: a relation without a solution settles
+// both cases. That is left out where nothing is counted beyond what is known to have solutions.
+fn split(
+    entries: &[u64],
+    w: Wants,
+    bound: usize,
+    known: Set,
     depth: usize,
     level: usize,
     work: &mut [u64],
@@ -46,10 +88,14 @@ pub fn world(
     let Highest::At(d) = pending.highest() else {
         return relations(entries, w, depth, level, work);
     };
-    if case_holds(entries, w, d, true, depth, level, work) {
+    let counts = counted(entries, w);
+    if refuted(entries, w, counts.minus(known), depth, level, work) {
+        return false;
+    }
+    if case_holds(entries, w, d, true, counts, depth, level, work) {
         return true;
     }
-    case_holds(entries, w, d, false, depth, level, work)
+    case_holds(entries, w, d, false, counts, depth, level, work)
 }
 
 // Whether some world is as wanted, looked for in one case of the split of entry d.
@@ -58,6 +104,7 @@ fn case_holds(
     w: Wants,
     d: usize,
     case: bool,
+    known: Set,
     depth: usize,
     level: usize,
     work: &mut [u64],
@@ -66,15 +113,33 @@ fn case_holds(
     ensures { λ r. ⌜ CaseAnswers (wideAt (now (entries .entry))) w d case r × Remembers (wideAt (now (entries .entry))) depth level (now (work .exit)) ⌝ }
 {
     match branch(entries, w, d, case, depth) {
-        Outcome::Settled(v) => world(entries, v, d, depth, level, work),
+        Outcome::Settled(v) => world(entries, v, d, known, depth, level, work),
         Outcome::Clash => false,
     }
 }
 
-// Whether some world is as wanted, where nothing is pending: every relation has a solution.
+// Whether a relation is found to have no solution, if there are new needs and limits.
+fn refuted(
+    entries: &[u64],
+    w: Wants,
+    new: Set,
+    depth: usize,
+    level: usize,
+    work: &mut [u64],
+) -> bool
+    requires { ⌜ CountAsked (wideAt (now entries)) (length (now entries)) w depth level (now work) ⌝ }
+    ensures { λ r. ⌜ (r ≡ true → SatW (wideAt (now (entries .entry))) w → ⊥) × Remembers (wideAt (now (entries .entry))) depth level (now (work .exit)) ⌝ }
+{
+    if new.is_empty() {
+        return false;
+    }
+    !relations(entries, w, depth, level, work)
+}
+
+// Whether every relation has a solution.
 fn relations(entries: &[u64], w: Wants, depth: usize, level: usize, work: &mut [u64]) -> bool
-    requires { ⌜ LeafAsked (wideAt (now entries)) (length (now entries)) w depth level (now work) ⌝ }
-    ensures { λ r. ⌜ Answers r (SatW (wideAt (now (entries .entry))) w) × Remembers (wideAt (now (entries .entry))) depth level (now (work .exit)) ⌝ }
+    requires { ⌜ CountAsked (wideAt (now entries)) (length (now entries)) w depth level (now work) ⌝ }
+    ensures { λ r. ⌜ CountAnswers (wideAt (now (entries .entry))) w r × Remembers (wideAt (now (entries .entry))) depth level (now (work .exit)) ⌝ }
 {
     let mut rest = counted(entries, w);
     loop {
@@ -90,8 +155,150 @@ fn relations(entries: &[u64], w: Wants, depth: usize, level: usize, work: &mut [
     }
 }
 
-// Whether the needs and limits of a relation have a solution.
+// Whether the needs and limits of a relation have a solution. If all promises can be kept together, they have; else the
+// largest sets of promises that can be kept are listed, and a solution is looked for among those.
 fn solve(
+    entries: &[u64],
+    q: Question,
+    all: Set,
+    depth: usize,
+    level: usize,
+    work: &mut [u64],
+) -> bool
+    requires { ⌜ ProblemAsked (problemOf (now entries) q) all depth level (now work) ⌝ }
+    ensures { λ r. ⌜ Answers r (Solvable (problemOf (now (entries .entry)) q)) × Remembers (wideAt (now (entries .entry))) depth level (now (work .exit)) ⌝ }
+{
+    if keeps(entries, q, all, depth, level, work) {
+        return true;
+    }
+    if opposed(entries, q, all, depth, level, work) {
+        return false;
+    }
+    if greedy(entries, q, all, depth, level, work) {
+        return true;
+    }
+    match by_list(entries, q, all, depth, level, work) {
+        Said::Yes => true,
+        Said::No => false,
+        Said::Nothing => past_list(entries, q, all, depth, level, work),
+    }
+}
+
+// What the list of the largest sets of promises that can be kept says, if it has room.
+fn by_list(
+    entries: &[u64],
+    q: Question,
+    all: Set,
+    depth: usize,
+    level: usize,
+    work: &mut [u64],
+) -> Said
+    requires { ⌜ ProblemAsked (problemOf (now entries) q) all depth level (now work) ⌝ }
+    ensures { λ r. ⌜ SaidIs (problemOf (now (entries .entry)) q) r × Remembers (wideAt (now (entries .entry))) depth level (now (work .exit)) ⌝ }
+{
+    let base = closed(entries, q).intersection(all);
+    match largest(entries, q, base, all.minus(base), 0, depth, level, work) {
+        Listing::Room(k) => {
+            if selected(entries, q, all, k, depth, level, work) {
+                Said::Yes
+            } else {
+                Said::No
+            }
+        }
+        Listing::Full => Said::Nothing,
+    }
+}
+
+// Whether there is a solution, where the list had no room. Weights that refute what was listed speak of few needs and limits;
+// if those alone have no solution, all have none. Else the search asks as it goes.
+fn past_list(
+    entries: &[u64],
+    q: Question,
+    all: Set,
+    depth: usize,
+    level: usize,
+    work: &mut [u64],
+) -> bool
+    requires { ⌜ ProblemAsked (problemOf (now entries) q) all depth level (now work) ⌝ }
+    ensures { λ r. ⌜ Answers r (Solvable (problemOf (now (entries .entry)) q)) × Remembers (wideAt (now (entries .entry))) depth level (now (work .exit)) ⌝ }
+{
+    let p = narrowed(q, weighed(entries, q, depth, level, work));
+    if let Said::No = by_list(entries, p, asking(entries, p), depth, level, work) {
+        return false;
+    }
+    by_asking(entries, q, all, depth, level, work)
+}
+
+// Whether a solution is found by serving one need after the other, each with a set that is grown as far as it can be kept:
+// first by the need, then by limits without room, by unmet needs, and by all. Where that does not get on, nothing is known.
+fn greedy(
+    entries: &[u64],
+    q: Question,
+    all: Set,
+    depth: usize,
+    level: usize,
+    work: &mut [u64],
+) -> bool
+    requires { ⌜ ProblemAsked (problemOf (now entries) q) all depth level (now work) ⌝ }
+    ensures { λ r. ⌜ GreedyIs (problemOf (now (entries .entry)) q) depth level (now (work .exit)) r ⌝ }
+{
+    let mut slots = 0;
+    loop {
+        if met(entries, q, all, work, slots) {
+            return true;
+        }
+        let open = unmet(entries, q, work, slots).intersection(all);
+        let full = used_up(entries, q, work, slots).intersection(all);
+        let one = grown(
+            entries,
+            q,
+            Set::empty(),
+            highest_of(open),
+            depth,
+            level,
+            work,
+        );
+        let safe = grown(entries, q, one, full, depth, level, work);
+        let wide = grown(entries, q, safe, open, depth, level, work);
+        let set = grown(entries, q, wide, all, depth, level, work);
+        let m = useful(entries, q, set, work, slots);
+        if m == 0 {
+            return false;
+        }
+        put_slot(work, slots, set, m);
+        slots += 1;
+    }
+}
+
+// A set grown by each member of another one beside which it can be kept.
+fn grown(
+    entries: &[u64],
+    q: Question,
+    low: Set,
+    free: Set,
+    depth: usize,
+    level: usize,
+    work: &mut [u64],
+) -> Set
+    requires { ⌜ GrowAsked (problemOf (now entries) q) low free depth level (now work) ⌝ }
+    ensures { λ r. ⌜ GrownIs (problemOf (now (entries .entry)) q) low free depth level (now (work .entry)) (now (work .exit)) r ⌝ }
+{
+    let mut set = low;
+    let mut rest = free;
+    loop {
+        let Highest::At(i) = rest.highest() else {
+            return set;
+        };
+        rest = rest.without(i);
+        let more = set.with(i);
+        if keeps(entries, q, more, depth, level, work) {
+            set = more;
+        }
+    }
+}
+
+// The same without a list: the search asks of each set that it comes to whether it can be kept.
+fn by_asking(
     entries: &[u64],
     q: Question,
     all: Set,
@@ -112,9 +319,6 @@ fn solve(
                 if keeps(entries, q, next, depth, level, work) {
                     at = take(&mut work[..level], all, asked, m);
                 } else {
-                    if opposed(entries, q, all, next, depth, level, work) {
-                        return false;
-                    }
                     at = skip(all, asked);
                 }
             }
@@ -122,13 +326,106 @@ fn solve(
     }
 }
 
+// Lists the largest sets that can be kept, of those that have all of `low` and beyond that only members of `free`: behind the
+// k that are listed, and but for sets that have no need or are inside a listed one.
+fn largest(
+    entries: &[u64],
+    q: Question,
+    low: Set,
+    free: Set,
+    k: usize,
+    depth: usize,
+    level: usize,
+    work: &mut [u64],
+) -> Listing
+    requires { ⌜ ListAsked (problemOf (now entries) q) (member low) (member free) k depth level (now work) ⌝ }
+    ensures { λ r. ⌜ ListingIs (problemOf (now (entries .entry)) q) (member low) (either (member low) (member free)) k depth level
+        (now (work .entry)) (now (work .exit)) r ⌝ }
+{
+    let high = low.union(free);
+    if !has_need(entries, q, high) {
+        return Listing::Room(k);
+    }
+    if known(entries, high, k, level, work) {
+        return Listing::Room(k);
+    }
+    if keeps(entries, q, high, depth, level, work) {
+        return also(entries, high, k, level, work);
+    }
+    let core = core_of(entries, q, low, free, depth, level, work);
+    branches(entries, q, low, free, core, k, depth, level, work)
+}
+
+// The same where the members of `core`, a part of `free`, cannot all be kept beside `low`: a set that can be kept leaves out
+// the highest of them, or has it and leaves out another one.
+fn branches(
+    entries: &[u64],
+    q: Question,
+    low: Set,
+    free: Set,
+    core: Set,
+    k: usize,
+    depth: usize,
+    level: usize,
+    work: &mut [u64],
+) -> Listing
+    requires { ⌜ BranchAsked (problemOf (now entries) q) (member low) (member free) (member core) k depth level (now work) ⌝ }
+    ensures { λ r. ⌜ ListingIs (problemOf (now (entries .entry)) q) (member low) (either (member low) (member free)) k depth level
+        (now (work .entry)) (now (work .exit)) r ⌝ }
+{
+    let Highest::At(i) = core.highest() else {
+        return Listing::Room(k);
+    };
+    let others = free.without(i);
+    match largest(entries, q, low, others, k, depth, level, work) {
+        Listing::Room(more) => branches(
+            entries,
+            q,
+            low.with(i),
+            others,
+            core.without(i),
+            more,
+            depth,
+            level,
+            work,
+        ),
+        Listing::Full => Listing::Full,
+    }
+}
+
+// A part of `free` that cannot be kept beside `low`, where all of it cannot: members are left out as long as that is so.
+fn core_of(
+    entries: &[u64],
+    q: Question,
+    low: Set,
+    free: Set,
+    depth: usize,
+    level: usize,
+    work: &mut [u64],
+) -> Set
+    requires { ⌜ CoreAsked (problemOf (now entries) q) (member low) (member free) depth level (now work) ⌝ }
+    ensures { λ r. ⌜ CoreIs (problemOf (now (entries .entry)) q) (member low) (member free) (member r) depth level (now (work .entry)) (now (work .exit)) ⌝ }
+{
+    let mut core = free;
+    let mut rest = free;
+    loop {
+        let Highest::At(i) = rest.highest() else {
+            return core;
+        };
+        rest = rest.without(i);
+        let fewer = core.without(i);
+        if !keeps(entries, q, low.union(fewer), depth, level, work) {
+            core = fewer;
+        }
+    }
+}
+
 // Whether a need and a limit are found that exclude each other: the need asks for more than the limit allows, and no
-// successor keeps both promises. They are looked for once, behind the set of all promises; if there are but two, that was it.
+// successor keeps both promises. If there are but two promises, that has been asked.
 fn opposed(
     entries: &[u64],
     q: Question,
     all: Set,
-    tried: Set,
     depth: usize,
     level: usize,
     work: &mut [u64],
@@ -136,7 +433,7 @@ fn opposed(
     requires { ⌜ ProblemAsked (problemOf (now entries) q) all depth level (now work) ⌝ }
     ensures { λ r. ⌜ Opposed (problemOf (now (entries .entry)) q) depth level (now (work .entry)) (now (work .exit)) r ⌝ }
 {
-    if tried.code() < all.code() || all.len() < 3 {
+    if all.len() < 3 {
         return false;
     }
     let mut needs = all;
@@ -191,7 +488,15 @@ fn next(entries: &[u64], w: Wants, depth: usize, level: usize, work: &mut [u64])
     if let Remembered::Answer(known) = recall(work, from, yes, no) {
         return known;
     }
-    let found = world(entries, w, 64, depth - 1, level, &mut work[level..]);
+    let found = world(
+        entries,
+        w,
+        64,
+        Set::empty(),
+        depth - 1,
+        level,
+        &mut work[level..],
+    );
     remember(work, from, yes, no, found);
     found
 }

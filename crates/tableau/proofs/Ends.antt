@@ -13,11 +13,11 @@ use Rattle.sets.specs.Word.{bitAt, word}
 use Rattle.sets.proofs.Words.{word-lt, bit-word, bit-word-high}
 use Rattle.tableau.specs.Wants.{wanted}
 use Rattle.tableau.specs.Counting.{bound, need, Row, All}
-use Rattle.tableau.specs.Search.{Slot, taken, rowsOf, Each, Problem, asking, Met, Kept, Solvable, FitRow, Fit, Ext, Open}
+use Rattle.tableau.specs.Search.{Slot, taken, rowsOf, Each, Problem, asking, Met, Kept, Solvable, FitRow, Fit, codesBelow, Ext, Open}
 use Rattle.tableau.specs.Search.Open.{next}
 use Rattle.tableau.proofs.Tests.{both-parts, one-of}
 use Rattle.tableau.proofs.Bounds.{bound-cases}
-use Rattle.tableau.proofs.Extend.{ext-done, ext-inserted}
+use Rattle.tableau.proofs.Extend.{ext-done, ext-inserted, below-listed}
 
 -- a test that no number from w on passes is that of the bits of its word
 word-spells : (w : ℕ) (p : ℕ → Bool) → ((i : ℕ) → p i ≡ true → i < w) → bitAt (word p w) ≡ p
@@ -68,11 +68,11 @@ module _ (P : Problem) (below : (b : Bool) (i : ℕ) → wanted (P .yes) (P .no)
     ext-left : (rows : List Row) → All (FitRow P) rows → Ext P (map (coded w) rows) (2 ^ w) → Ext P [] (2 ^ w)
     unfolding coded
     ext-left [] us e = e
-    ext-left (row ∷ rows) us e = ext-left rows (us .1) (ext-inserted (2 ^ w) (word-lt (row .promises) w) (fit-coded (us .0)) e)
+    ext-left (row ∷ rows) us e = ext-left rows (us .1) (ext-inserted (codesBelow (2 ^ w)) (below-listed (2 ^ w) (word-lt (row .promises) w)) (fit-coded (us .0)) e)
 
     pub start : Solvable P → Open P [] (2 ^ w)
     start known =
         let same = rows-coded (known .rows) (known .usable) in
         let met : Met P (map (coded w) (known .rows)) = record { met = λ i a. rw same (known .met i (a .bounds) (a .here)) } in
         let kept : Kept P (map (coded w) (known .rows)) = record { kept = λ i a. rw same (known .kept i (a .bounds) (a .here)) } in
-        next (ext-left (known .rows) (known .usable) (ext-done met kept (2 ^ w)))
+        next (ext-left (known .rows) (known .usable) (ext-done met kept (codesBelow (2 ^ w))))

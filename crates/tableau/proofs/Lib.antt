@@ -33,8 +33,14 @@ pub mod Potential
 pub mod Stack
 -- a need and a limit that exclude each other
 pub mod Opposed
+-- all promises together
+pub mod Together
+-- fewer needs and limits
+pub mod Narrowed
 -- a list of sets that stands for all
 pub mod Listed
+-- the search over a list of sets
+pub mod Extension
 -- refutation by weights
 pub mod Weights
 -- the search step by step

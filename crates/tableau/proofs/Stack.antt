@@ -13,7 +13,7 @@ use Rattle.tableau.specs.Counting.{boundKind, lo, total, served}
 use Rattle.tableau.specs.Search.{Slot, rowsOf, Problem, Lacks, Serving}
 use Rattle.tableau.proofs.Bounds.{bound-cases}
 
-lo-le-weight : (e : Entry) (b : Bool) → e .kind ≡ boundKind b true → lo e ≤ weight e
+pub lo-le-weight : (e : Entry) (b : Bool) → e .kind ≡ boundKind b true → lo e ≤ weight e
 lo-le-weight e true k = rw k (omega arith)
 lo-le-weight e false k = rw k (omega arith)
 

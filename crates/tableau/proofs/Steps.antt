@@ -7,13 +7,13 @@ use mathlib.Core.Bool.{Bool, true, false, not}
 use mathlib.Core.List.{List, [], _∷_}
 use Prim.Native.Nat.{ℕ, zero, suc, _+_, _-_, _<_, _≤_, min, zero-le}
 use native.Mathlib.Decide.{le-ind, decLt, ℕ-discrete}
-use native.Mathlib.Nat.{not-suc-le-zero, zero-lt-suc, lt-suc-self}
+use native.Mathlib.Nat.{not-suc-le-zero, zero-lt-suc, lt-suc-self, eq-or-lt-of-le}
 use native.Mathlib.Omega.{arith}
 use Rattle.semantics.proofs.Successors.{gain}
 use Rattle.sets.specs.Word.{bitAt}
 use Rattle.tableau.specs.Counting.{lo, total, served, spent}
-use Rattle.tableau.specs.Search.{Slot, taken, rowsOf, Problem, Asks, Met, Kept, Fit, Open, Full, Useful}
-use Rattle.tableau.specs.Search.Ext.{complete, copies}
+use Rattle.tableau.specs.Search.{Slot, taken, rowsOf, Problem, Asks, Met, Kept, Fit, Choice, codesBelow, Open, Full, Useful}
+use Rattle.tableau.specs.Search.Choice.{done, some}
 use Rattle.tableau.specs.Search.Back.{fewer, earlier}
 use Rattle.tableau.specs.Search.Open.{next, later}
 use Rattle.tableau.proofs.Extend.{Better, ext-better, ext-none, ext-kept}
@@ -58,9 +58,17 @@ module _ {P : Problem} {slots : List Slot} where
       spares = λ i a. omega (arith, gain-le (not (bitAt b i)) l);
     }
 
+    -- an extension has no more copies than the useful number, or need not have more
+    pub ext-useful : {may : ℕ → Type 0} {rest : List ℕ} → Useful P slots b m → Choice P may slots (b ∷ rest)
+        → (k : ℕ) × (k ≤ m) × Choice P may (taken b k ∷ slots) rest
+    ext-useful u (some k ok e) =
+        by-cases (decLt k m) (λ (l : k < m). (k, omega arith, e)) (λ (g : ¬ (k < m)). (m, omega arith, ext-better (useful-better u (omega arith) (ext-kept e)) e))
+
     pub open-taken : Useful P slots b m → Open P slots (suc b) → Open P (taken b m ∷ slots) b
-    open-taken u (next (copies k ok e)) =
-        by-cases (decLt k m) (λ (l : k < m). later (fewer k l e)) (λ (g : ¬ (k < m)). next (ext-better (useful-better u (omega arith) (ext-kept e)) e))
+    unfolding codesBelow
+    open-taken u (next e) =
+        let (k, l, rest) = ext-useful u e in
+        ⊎-elim (λ (at : k ≡ m). next (rw at at rest)) (λ (less : k < m). later (fewer k less rest)) (eq-or-lt-of-le l)
     open-taken u (later h) = later (earlier h)
 
   -- ---- no set is taken
@@ -75,8 +83,9 @@ module _ {P : Problem} {slots : List Slot} where
   open-useless u o = open-dropped (open-taken u o)
 
   pub open-unfit : {b : ℕ} → (Fit P b → ⊥) → Open P slots (suc b) → Open P slots b
-  open-unfit un (next (copies zero ok e)) = next (ext-none e)
-  open-unfit un (next (copies (suc m) ok e)) = absurd (un (ok (zero-lt-suc m)))
+  unfolding codesBelow
+  open-unfit un (next (some zero ok e)) = next (ext-none e)
+  open-unfit un (next (some (suc m) ok e)) = absurd (un (ok (zero-lt-suc m)))
   open-unfit un (later h) = later h
 
   -- there is no fit set from t′ to t
@@ -88,7 +97,8 @@ module _ {P : Problem} {slots : List Slot} where
   -- ---- the newest slot is lowered
 
   pub open-lowered : {b m : ℕ} → 0 < m → (Met P (taken b m ∷ slots) → ⊥) → Open P (taken b m ∷ slots) 0 → Open P (taken b (m - 1) ∷ slots) b
-  open-lowered pos un (next (complete met kept)) = absurd (un met)
+  unfolding codesBelow
+  open-lowered pos un (next (done met kept)) = absurd (un met)
   open-lowered {b} {m} pos un (later (fewer k l e)) =
       by-cases (ℕ-discrete k (m - 1)) (λ (at : k ≡ m - 1). next (rw (← at) e)) (λ (off : ¬ (k ≡ m - 1)). later (fewer k (omega arith) e))
   open-lowered pos un (later (earlier h)) = later (earlier h)
@@ -98,4 +108,5 @@ unfolding total
 kept-none = record { kept = λ i a. zero-le }
 
 pub open-never : {P : Problem} → (Met P [] → ⊥) → Open P [] 0 → ⊥
-open-never un (next (complete met kept)) = un met
+unfolding codesBelow
+open-never un (next (done met kept)) = un met

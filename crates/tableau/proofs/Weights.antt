@@ -1,6 +1,7 @@
--- Weights that refute a problem leave it no solution.
--- Why: weighed and rounded, every successor serves no more than it costs, but more is asked for than is allowed.
+-- Behind slots with weights that refute, no copies of listed sets complete them to a solution.
+-- Why: weighed and rounded, every copy serves no more than it costs, but more is lacking than there is room for.
 use mathlib.Core.Path.{_≡_, refl, sym, ap, _∙_}
+use mathlib.Core.Logic._⊎_.{inl, inr}
 use mathlib.Core.Bool.{Bool, true, false, not}
 use mathlib.Core.List.{List, [], _∷_}
 use Prim.Native.Nat.{ℕ, zero, suc, _+_, _-_, _*_, _/_, _<_, _≤_}
@@ -9,10 +10,10 @@ use native.Mathlib.Omega.{arith}
 use Rattle.semantics.specs.Structure.{bit}
 use Rattle.semantics.proofs.Successors.{gain}
 use Rattle.tableau.specs.Counting.{Row, total, All, lo, hi, served, spent}
-use Rattle.tableau.specs.Search.{Slot, rowsOf, Each, Problem, Met, Kept, Solvable}
-use Rattle.tableau.specs.Listed.{In, Covers}
-use Rattle.tableau.specs.Weights.{sum, up, serves, costs, Refuted}
-use Rattle.tableau.proofs.Listed.{listed-solution}
+use Rattle.tableau.specs.Search.{Slot, taken, rowsOf, Each, Problem, Asks, Extension}
+use Rattle.tableau.specs.Search.Choice.{done, some}
+use Rattle.tableau.specs.Listed.{In}
+use Rattle.tableau.specs.Weights.{sum, up, serves, costs, lack, room, Refuted}
 
 -- all successors of the rows, each with the weight of its row
 unfoldable weigh : (Row → ℕ) → List Row → ℕ
@@ -101,28 +102,55 @@ weighed : (k x y : ℕ) → (0 < k → x ≤ y) → k * x ≤ k * y
 weighed zero x y h = omega (arith, zero-mul x, zero-mul y)
 weighed (suc k) x y h = mul-le-mul (le-refl (suc k)) (h (zero-lt-suc k))
 
-module _ (P : Problem) (list : List ℕ) (a b : ℕ → ℕ) (r : ℕ) (weights : Refuted P list a b r) where
-  slots-weighed : (slots : List Slot) → Each (λ c. In c list) slots → All (λ row. up (serves P a (row .promises)) r ≤ costs P b (row .promises) / r) (rowsOf slots)
-  slots-weighed [] each = each
-  slots-weighed (s ∷ slots) each = (weights .sets (s .code) (each .0), slots-weighed slots (each .1))
+-- the further slots are of listed sets, and complete the slots to a solution
+pub record Completes (P : Problem) (slots : List Slot) (list : List ℕ) (more : List Slot) : Type 0 where
+  pub listed : Each (λ c. In c list) more
+  pub met : (i : ℕ) → Asks P true i → lo (P .entry i) ≤ served i (rowsOf more) + served i (rowsOf slots)
+  pub kept : (j : ℕ) → Asks P false j → spent j (rowsOf more) + spent j (rowsOf slots) ≤ hi (P .entry j)
 
-  no-slots : (slots : List Slot) → Each (λ c. In c list) slots → Met P slots → Kept P slots → ⊥
-  no-slots slots each all-met all-kept =
-      let rows = rowsOf slots in
-      let asked = sum (λ i. a i * lo (P .entry i)) (P .n) in
-      let allowed = sum (λ j. b j * hi (P .entry j)) (P .n) in
-      let met : asked ≤ sum (λ i. a i * served i rows) (P .n) = sum-mono (P .n) (λ i. weighed (a i) _ _ (λ h. all-met .met i (weights .needs i h))) in
-      let kept : sum (λ j. b j * spent j rows) (P .n) ≤ allowed = sum-mono (P .n) (λ j. weighed (b j) _ _ (λ h. all-kept .kept j (weights .limits j h))) in
+module _ (P : Problem) (slots : List Slot) (list : List ℕ) (a b : ℕ → ℕ) (r : ℕ) (weights : Refuted P slots list a b r) where
+  slots-weighed : (more : List Slot) → Each (λ c. In c list) more → All (λ row. up (serves P a (row .promises)) r ≤ costs P b (row .promises) / r) (rowsOf more)
+  slots-weighed [] each = each
+  slots-weighed (s ∷ more) each = (weights .sets (s .code) (each .0), slots-weighed more (each .1))
+
+  pub refuted : (more : List Slot) → Completes P slots list more → ⊥
+  refuted more all =
+      let rows = rowsOf more in
+      let asked = sum (λ i. a i * lack P slots i) (P .n) in
+      let allowed = sum (λ j. b j * room P slots j) (P .n) in
+      let met : asked ≤ sum (λ i. a i * served i rows) (P .n) =
+      sum-mono (P .n) (λ i. weighed (a i) _ _ (λ h. omega (arith, all .met i (weights .needs i h)))) in
+      let kept : sum (λ j. b j * spent j rows) (P .n) ≤ allowed =
+      sum-mono (P .n) (λ j. weighed (b j) _ _ (λ h. omega (arith, all .kept j (weights .limits j h)))) in
       let served-weight = weigh-sum a (λ i row. row .promises i) (P .n) rows in
       let spent-weight = weigh-sum b (λ j row. not (row .promises j)) (P .n) rows in
       let ups = weigh (λ row. up (serves P a (row .promises)) r) rows in
       let downs = weigh (λ row. costs P b (row .promises) / r) rows in
       let first : up asked r ≤ ups =
       up-least (weights .divisor) asked ups (omega (arith, met, served-weight, weigh-up (weights .divisor) (λ row. serves P a (row .promises)) rows)) in
-      let second : ups ≤ downs = weigh-mono _ _ rows (slots-weighed slots each) in
+      let second : ups ≤ downs = weigh-mono _ _ rows (slots-weighed more (all .listed)) in
       let third : downs ≤ allowed / r =
       down-greatest (weights .divisor) allowed downs (omega (arith, kept, spent-weight, weigh-down (weights .divisor) (λ row. costs P b (row .promises)) rows)) in
       omega (arith, first, second, third, weights .gap)
 
-  pub refuted : Covers P list → Solvable P → ⊥
-  refuted covers s = let (slots, each, met, kept) = listed-solution P list covers s in no-slots slots each met kept
+-- ---- the copies of an extension as further slots
+
+also-listed : (b : ℕ) (rest : List ℕ) (more : List Slot) → Each (λ c. In c rest) more → Each (λ c. In c (b ∷ rest)) more
+also-listed b rest [] each = each
+also-listed b rest (s ∷ more) each = (inr (each .0), also-listed b rest more (each .1))
+
+completed : {P : Problem} {slots : List Slot} {list : List ℕ} → Extension P slots list → (more : List Slot) × Completes P slots list more
+unfolding total
+completed (done met kept) = ([], record { listed = tt; met = λ i asks. omega (arith, met .met i asks); kept = λ j asks. omega (arith, kept .kept j asks) })
+completed (some {slots} {b} {rest} m ok e) =
+    let (more, all) = completed e in (
+      taken b m ∷ more,
+      record {
+        listed = (inl refl, also-listed b rest more (all .listed));
+        met = λ i asks. omega (arith, all .met i asks);
+        kept = λ j asks. omega (arith, all .kept j asks);
+      },
+    )
+
+pub no-extension : {P : Problem} {slots : List Slot} {list : List ℕ} {a b : ℕ → ℕ} {r : ℕ} → Refuted P slots list a b r → Extension P slots list → ⊥
+no-extension {P} {slots} {list} {a} {b} {r} weights e = let (more, all) = completed e in refuted P slots list a b r weights more all

@@ -37,6 +37,11 @@ load (s ∷ slots) = s .copies * 4098 ^ s .code + load slots
 unfoldable pub potential : List Slot → ℕ → ℕ
 potential slots t = load slots + 4098 ^ t
 
+-- the codes below t, the greatest first
+unfoldable pub codesBelow : ℕ → List ℕ
+codesBelow zero = []
+codesBelow (suc b) = b ∷ codesBelow b
+
 -- the needs and limits of one relation among n entries
 pub record Problem : Type 0 where
   pub entry : ℕ → Entry
@@ -72,10 +77,18 @@ module _ (P : Problem) where
   abbrev pub Fit : ℕ → Type 0
   Fit b = FitRow (asRow (taken b 0))
 
-  -- With some number of copies of each set below t, the slots are a solution. Only fit sets have copies.
-  pub data Ext : List Slot → ℕ → Type 0 where
-    complete : {slots : List Slot} → Met slots → Kept slots → Ext slots zero
-    copies : {slots : List Slot} {b : ℕ} (m : ℕ) → (0 < m → Fit b) → Ext (taken b m ∷ slots) b → Ext slots (suc b)
+  -- With some number of copies of each set of a list, in its order, the slots are a solution. Only sets that may have copies have some.
+  pub data Choice (may : ℕ → Type 0) : List Slot → List ℕ → Type 0 where
+    done : {slots : List Slot} → Met slots → Kept slots → Choice may slots []
+    some : {slots : List Slot} {b : ℕ} {rest : List ℕ} (m : ℕ) → (0 < m → may b) → Choice may (taken b m ∷ slots) rest → Choice may slots (b ∷ rest)
+
+  -- any listed set may have copies
+  abbrev pub Extension : List Slot → List ℕ → Type 0
+  Extension = Choice (λ b. Unit {0})
+
+  -- so may any fit set below t
+  abbrev pub Ext : List Slot → ℕ → Type 0
+  Ext slots t = Choice Fit slots (codesBelow t)
 
   -- so are the slots up to some slot, with fewer copies of that one, and some of each set below it
   pub data Back : List Slot → Type 0 where

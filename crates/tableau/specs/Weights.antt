@@ -1,12 +1,12 @@
--- Refutation by weights: weights on needs and limits, and a divisor, that no solution of listed sets agrees with. With weight 1 on one need and on one limit it is a pair
--- that excludes each other; greater divisors also see that whole numbers do not fit.
+-- Refutation by weights: weights on needs and limits, and a divisor, that no copies of listed sets agree with, behind slots that are taken.
+-- With weight 1 on one need and on one limit it is a pair that excludes each other; greater divisors also see that whole numbers do not fit.
 use mathlib.Core.Bool.{Bool, true, false, not}
 use mathlib.Core.List.{List}
 use Prim.Native.Nat.{ℕ, zero, suc, _+_, _-_, _*_, _/_, _<_, _≤_}
 use Rattle.semantics.specs.Structure.{bit}
 use Rattle.sets.specs.Word.{bitAt}
-use Rattle.tableau.specs.Counting.{lo, hi}
-use Rattle.tableau.specs.Search.{Problem, Asks}
+use Rattle.tableau.specs.Counting.{lo, hi, served, spent}
+use Rattle.tableau.specs.Search.{Slot, rowsOf, Problem, Asks}
 use Rattle.tableau.specs.Listed.{In}
 
 -- the sum of the numbers f 0, f 1, .. below a bound
@@ -25,10 +25,17 @@ serves P a promises = sum (λ i. a i * bit (promises i)) (P .n)
 abbrev pub costs : Problem → (ℕ → ℕ) → (ℕ → Bool) → ℕ
 costs P b promises = sum (λ j. b j * bit (not (promises j))) (P .n)
 
--- By the weights a of the needs and b of the limits, rounded by r, no listed set serves more than it costs, and more is asked for than allowed.
-pub record Refuted (P : Problem) (list : List ℕ) (a b : ℕ → ℕ) (r : ℕ) : Type 0 where
+-- what a need lacks behind the slots; what room they leave under a limit
+abbrev pub lack : Problem → List Slot → ℕ → ℕ
+lack P slots i = lo (P .entry i) - served i (rowsOf slots)
+
+abbrev pub room : Problem → List Slot → ℕ → ℕ
+room P slots j = hi (P .entry j) - spent j (rowsOf slots)
+
+-- By the weights a of the needs and b of the limits, rounded by r, no listed set serves more than it costs, and more is lacking than there is room for.
+pub record Refuted (P : Problem) (slots : List Slot) (list : List ℕ) (a b : ℕ → ℕ) (r : ℕ) : Type 0 where
   pub divisor : 0 < r
   pub needs : (i : ℕ) → 0 < a i → Asks P true i
   pub limits : (i : ℕ) → 0 < b i → Asks P false i
   pub sets : (c : ℕ) → In c list → up (serves P a (bitAt c)) r ≤ costs P b (bitAt c) / r
-  pub gap : sum (λ j. b j * hi (P .entry j)) (P .n) / r < up (sum (λ i. a i * lo (P .entry i)) (P .n)) r
+  pub gap : sum (λ j. b j * room P slots j) (P .n) / r < up (sum (λ i. a i * lack P slots i) (P .n)) r

@@ -123,7 +123,7 @@ fn clashes(entries: &[u64], e: usize, w: Wants, truth: bool) -> bool
 }
 
 // The entries wanted to be so.
-fn wanted(w: Wants, truth: bool) -> Set
+pub fn wanted(w: Wants, truth: bool) -> Set
     ensures { λ r. ⌜ member r ≡ wantedW w truth ⌝ }
 {
     if truth { w.yes } else { w.no }

@@ -1,0 +1,2 @@
+-- copies that complete the slots
+pub mod Completing

@@ -1,0 +1,30 @@
+-- `met_at` meets its contract: an entry that is no need, or one with no less than it asks for.
+use mathlib.Core.Path.{sym, _∙_}
+use mathlib.Core.Bool.{true}
+use borrow.Author.Needs.{needs}
+use borrow.Author.Tests.{not-true, leb-true}
+use Rattle.counting.proofs.Measures.{asks-no}
+use Rattle.copies.proofs.met_at.Statement.{statement}
+use Rattle.copies.proofs.met_at.Tie as tie
+
+returns : tie.Need-returns
+returns c so asks =
+    let a = c .before .before .before .before .before .args in
+    let test = rw (c .before .before .wide-at .ensures) at (c .before .asks .ensures) in
+    absurd (asks-no (a .entries .now) (a .q) (a .i) true (sym test ∙ not-true _ (c .if1 .taken)) asks)
+
+returns-2 : tie.Need-returns-2
+returns-2 c so asks =
+    let read = c .before .before .before .before .wide-at .ensures in
+    rw (c .before .least .ensures, read, c .amount .ensures) at (leb-true (c .before .least .result) (c .amount .result) so)
+
+pub met-at-spec : {M : Type 1} → statement M
+met-at-spec =
+    tie.close
+    (tie.spec
+    (λ c κs. search needs)
+    (λ c κs. search needs)
+    returns
+    (λ c κs. search needs)
+    (λ c κs. search needs)
+    returns-2)

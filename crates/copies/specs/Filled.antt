@@ -1,0 +1,35 @@
+-- Copies of listed sets in lent words, one number a set, and the slots that they fill.
+use mathlib.Core.Bool.{true, false}
+use mathlib.Core.List.{List, _∷_}
+use Prim.Native.Nat.{ℕ, zero, suc, _+_, _%_, _≤_}
+use lib.ListN.{length, getD}
+use Rattle.tableau.specs.Counting.{lo, hi, served, spent}
+use Rattle.tableau.specs.Search.{Slot, taken, rowsOf, Problem, Asks}
+use Rattle.counting.specs.Stack.{slotsOf, Few}
+
+-- the copies of the listed set j: the word at from + j, of which only the lower 16 bits count
+abbrev pub copiesAt : List ℕ → (from j : ℕ) → ℕ
+copiesAt words from j = getD words (from + j) 0 % 65536
+
+-- so many of the listed set j
+abbrev pub filledAt : List ℕ → (at from j : ℕ) → Slot
+filledAt words at from j = taken (getD words (at + j) 0) (copiesAt words from j)
+
+-- the slots on the stack, and those of the first k listed sets on top of them
+unfoldable pub filled : List ℕ → (at k slots from : ℕ) → List Slot
+filled words at zero slots from = slotsOf words slots
+filled words at (suc k) slots from = filledAt words at from k ∷ filled words at k slots from
+
+-- the k codes and their copies lie in the words, and no sum of copies wraps
+pub record Placed (words : List ℕ) (at k slots from : ℕ) : Type 0 where
+  pub stack : Few words slots
+  pub codes : at + k ≤ length words
+  pub copies : from + k ≤ length words
+  pub short : k ≤ 4294967296
+
+-- the slots meet entry i, if it is a need; they keep it, if it is a limit
+abbrev pub MetAt : Problem → List Slot → ℕ → Type 0
+MetAt P slots i = Asks P true i → lo (P .entry i) ≤ served i (rowsOf slots)
+
+abbrev pub KeptAt : Problem → List Slot → ℕ → Type 0
+KeptAt P slots i = Asks P false i → spent i (rowsOf slots) ≤ hi (P .entry i)

@@ -1,0 +1,2 @@
+-- copies of listed sets in words
+pub mod Filled

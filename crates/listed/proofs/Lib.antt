@@ -1,0 +1,2 @@
+-- codes in words, place by place
+pub mod Codes

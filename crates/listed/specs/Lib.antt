@@ -1,0 +1,2 @@
+-- codes in words
+pub mod Codes

@@ -1,0 +1,124 @@
+-- What follows without a split. Why: where d is as wanted, one of its parts is as it serves; so if one is not, the other is. Where a
+-- part is so at every world that is as wanted, wanting it takes none of them away.
+use mathlib.Core.Path.{_≡_, refl, sym, ap, _∙_}
+use mathlib.Core.Logic.{_⊎_, inl, inr, ⊎-elim}
+use mathlib.Core.Bool.{Bool, true, false, not, _&&_, _||_, or-true, Bool·not-not, true≢false, false≢true}
+use Prim.Native.Nat.{ℕ, _<_, _≤_}
+use native.Mathlib.Nat.{le-trans}
+use native.Mathlib.Omega.{arith}
+use lib.Dec.{eqb}
+use borrow.Author.Tests.{not-true}
+use Rattle.semantics.specs.Structure.{Structure, count}
+use Rattle.semantics.proofs.Count.{count-mono}
+use Rattle.sets.specs.Set.{added, removed, butNot}
+use Rattle.sets.specs.Word.{Greatest}
+use Rattle.table.specs.declared.entry.Entry.{Entry}
+use Rattle.table.specs.Formulas.{depthAt}
+use Rattle.table.proofs.Accepted.{WellFormed}
+use Rattle.tableau.specs.Wants.{truthAt, Answers}
+use Rattle.tableau.proofs.Tests.{both-parts}
+use Rattle.tableau.proofs.Rules.{not-rule}
+use Rattle.wants.specs.declared.Wants.{Wants}
+use Rattle.wants.specs.declared.Outcome.{Outcome}
+use Rattle.wants.specs.Outcome.{wantedW, Asked, OutcomeIs}
+use Rattle.wants.proofs.Members.{count-removed}
+use Rattle.satisfy.specs.World.{SatW, serving, Ready, Waiting, Lightened}
+use Rattle.satisfy.specs.Force.{Shown, Forced, ForcedIs}
+use Rattle.satisfy.proofs.Splitting.{inside, first-below, second-below, part-depths, cases, light-ready, light-sound}
+
+not-both : (b x : Bool) → x ≡ b → x ≡ not b → ⊥
+not-both true x p q = true≢false (sym p ∙ q)
+not-both false x p q = false≢true (sym p ∙ q)
+
+-- a not is the other way than its part
+pub not-shown : {entry : ℕ → Entry} (w : Wants) {n : ℕ} → WellFormed entry n → (b c : Bool) → not c ≡ b → (i : ℕ) → i < n → entry i .kind ≡ 3
+    → wantedW w c (entry i .first) ≡ true → Shown entry b i w
+not-shown {entry} w formed b c turned i l k h s u m =
+    let part = not-rule formed s u l (truthAt entry s u i) k refl in
+    sym (Bool·not-not (truthAt entry s u i)) ∙ ap not (sym part ∙ m .as-wanted c (entry i .first) h) ∙ turned
+
+-- an entry is found in a set
+pub found : {p q : ℕ → Bool} {r : Bool} (i : ℕ) → q ≡ p → r ≡ q i → r ≡ true → p i ≡ true
+found i same is h = sym (ap (λ (p : ℕ → Bool). p i) same) ∙ sym is ∙ h
+
+-- the highest that is pending and not seen
+pub unseen : (p seen rest : ℕ → Bool) {d : ℕ} → rest ≡ butNot p seen → Greatest rest d → (p d ≡ true) × (seen d ≡ false)
+unseen p seen rest {d} is top =
+    let parts = both-parts true (p d) (not (seen d)) (ap (λ (q : ℕ → Bool). q d) (sym is) ∙ top .here) in
+    (parts .0, not-true (seen d) (parts .1))
+
+module _ {entry : ℕ → Entry} {n d bound depth : ℕ} {w : Wants} (at : Waiting entry n w d bound depth) where
+  -- if one part is not as it serves, the other one is
+  pub second-left : Shown entry (not (serving entry d)) (entry d .first) w → Shown entry (serving entry d) (entry d .second) w
+  second-left against s u m =
+      ⊎-elim (λ (t : truthAt entry s u (entry d .first) ≡ serving entry d). absurd (not-both (serving entry d) _ t (against s u m)))
+      (λ (t : (truthAt entry s u (entry d .first) ≡ not (serving entry d)) × (truthAt entry s u (entry d .second) ≡ serving entry d)). t .1)
+      (cases at s u m)
+
+  pub first-left : Shown entry (not (serving entry d)) (entry d .second) w → Shown entry (serving entry d) (entry d .first) w
+  first-left against s u m =
+      ⊎-elim (λ (t : truthAt entry s u (entry d .first) ≡ serving entry d). t)
+      (λ (t : (truthAt entry s u (entry d .first) ≡ not (serving entry d)) × (truthAt entry s u (entry d .second) ≡ serving entry d)).
+      absurd (not-both (serving entry d) _ (t .1) (against s u m)))
+      (cases at s u m)
+
+  module _ {i : ℕ} (part : (i ≡ entry d .first) ⊎ (i ≡ entry d .second)) where
+    part-below : i < d
+    part-below =
+        ⊎-elim (λ (e : i ≡ entry d .first). omega (arith, first-below at)) (λ (e : i ≡ entry d .second). omega (arith, second-below at)) part
+
+    part-flat : depthAt entry i ≤ depth
+    part-flat =
+        ⊎-elim (λ (e : i ≡ entry d .first). rw e (part-depths at .0)) (λ (e : i ≡ entry d .second). rw e (part-depths at .1)) part
+
+    pub part-asked : Asked entry n i w
+    part-asked = record { formed = at .ready .formed; few = at .ready .few; inside = omega (arith, part-below, inside at); settled = at .ready .settled }
+
+    part-has : (v : Wants) (b : Bool) → wantedW v b i ≡ true → wantedW v b (entry d .first) || wantedW v b (entry d .second) ≡ true
+    part-has v b h =
+        ⊎-elim (λ (e : i ≡ entry d .first). rw (← e, h) refl) (λ (e : i ≡ entry d .second). rw (← e, h, or-true) refl) part
+
+    pub forced-part : Shown entry (serving entry d) i w → (o r : Outcome) → OutcomeIs entry n (serving entry d) i w o → Lightened d o r
+        → ForcedIs entry n w bound depth r
+    forced-part shown (Outcome.Settled v) (Outcome.Settled u) taken light = record {
+      ready = light-ready at v u light (taken .settled) (part-has v (serving entry d) (taken .has))
+          (λ j h other. ⊎-elim (at .ready .pending-below j) (λ (l : j ≤ i). omega (arith, part-below, at .ready .pending-below d (at .here))) (taken .pending-new j h))
+          (λ c j h. ⊎-elim (at .ready .shallow c j) (λ (l : depthAt entry j ≤ depthAt entry i). le-trans l part-flat) (taken .no-deeper c j h));
+      sound = light-sound at v u light (taken .grows);
+      complete = λ s x m. rw (light .0, light .1) (taken .meets s x m (shown s x m));
+    }
+    forced-part shown (Outcome.Settled v) Outcome.Clash taken light = absurd light
+    forced-part shown Outcome.Clash (Outcome.Settled u) clash light = absurd light
+    forced-part shown Outcome.Clash Outcome.Clash clash light = λ s x m. clash s x m (shown s x m)
+
+module _ {entry : ℕ → Entry} {n bound depth : ℕ} {w : Wants} where
+  pub forced-none : Ready entry n w bound depth → Forced entry n w bound depth w
+  forced-none ready = record { ready = ready; sound = λ sat. sat; complete = λ s u m. m }
+
+  -- one step after the other
+  pub forced-next : {v : Wants} → Forced entry n w bound depth v → (r : Outcome) → ForcedIs entry n v bound depth r → ForcedIs entry n w bound depth r
+  forced-next one (Outcome.Settled u) two = record {
+    ready = two .ready;
+    sound = λ sat. one .sound (two .sound sat);
+    complete = λ s x m. two .complete s x (one .complete s x m);
+  }
+  forced-next one Outcome.Clash clash = λ s x m. clash s x (one .complete s x m)
+
+  -- what is answered of the outcome holds of what was wanted
+  pub forced-answer : {v : Wants} → Forced entry n w bound depth v → (r : Bool) → Answers r (SatW entry v) → Answers r (SatW entry w)
+  forced-answer forced true sat = forced .sound sat
+  forced-answer forced false none = λ sat. none (record {
+    structure = sat .structure;
+    world = sat .world;
+    inside = sat .inside;
+    meets = forced .complete (sat .structure) (sat .world) (sat .meets);
+  })
+
+-- one more is seen
+pub unseen-fewer : (p : ℕ → Bool) {d n : ℕ} → p d ≡ false → d < n → count (λ i. not (added p d i)) n < count (λ i. not (p i)) n
+unseen-fewer p {d} {n} new l =
+    omega (arith, count-removed (λ i. not (p i)) n (rw new refl) l, count-mono {p = λ i. not (added p d i)} {q = removed (λ i. not (p i)) d} n (λ i b h. apart (eqb i d) (p i) h))
+  where
+    apart : (x y : Bool) → not (x || y) ≡ true → not x && not y ≡ true
+    apart true y h = absurd (false≢true h)
+    apart false y h = h

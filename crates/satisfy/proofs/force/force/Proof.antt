@@ -1,0 +1,44 @@
+-- `force` meets its contract. The invariant: what is wanted says the same as at first.
+use Prim.Native.Nat.{_-_}
+use lib.ListN.{length}
+use borrow.Author.Needs.{needs}
+use Rattle.wide.specs.Wide.{wideAt}
+use Rattle.wants.specs.declared.Outcome.{Outcome}
+use Rattle.satisfy.specs.Force.{Forced}
+use Rattle.satisfy.proofs.Forcing.{forced-none, forced-next}
+use Rattle.satisfy.proofs.force.force.Statement.{statement}
+use Rattle.satisfy.proofs.force.force.Tie as tie
+
+abbrev Inv-loop : tie.InvT-loop
+Inv-loop entries bound depth v₀ looks₀ v looks = Forced (wideAt entries) (length entries) v₀ bound depth v
+
+abbrev μ-loop : tie.MeasureT-loop
+μ-loop entries bound depth v₀ looks₀ v looks = 64 - looks
+
+returns : tie.Need-returns Inv-loop μ-loop
+returns c = forced-next (c .before .before .before .before .before .loop .inv) Outcome.Clash (rw (c .enum-told .given .1) at (c .before .before .look .ensures))
+
+returns-2 : tie.Need-returns-2 Inv-loop μ-loop
+returns-2 c = forced-next (c .before .before .before .before .before .before .before .before .before .before .loop .inv) (Outcome.Settled (c .before .before .before .before .before .u .given .0 .0)) (rw (c .before .before .before .before .before .u .given .1) at (c .before .before .before .before .before .before .before .look .ensures))
+
+loop-again : tie.Need-loop-again Inv-loop μ-loop
+loop-again c = forced-next (c .before .before .before .before .before .before .before .before .before .before .loop .inv) (Outcome.Settled (c .before .before .before .before .before .u .given .0 .0)) (rw (c .before .before .before .before .before .u .given .1) at (c .before .before .before .before .before .before .before .look .ensures))
+
+pub force-spec : {M : Type 1} → statement M
+force-spec =
+    tie.close
+    (tie.spec
+    Inv-loop
+    μ-loop
+    (λ c. forced-none (c .before .pre))
+    (λ c κs. search needs)
+    (λ c. search needs)
+    (λ c. search needs)
+    returns
+    (λ c κs. search needs)
+    (λ c κs. search needs)
+    returns-2
+    (λ c. search needs)
+    (λ c. search needs)
+    loop-again
+    (λ c. search needs))

@@ -1,0 +1,2110 @@
+use Prim.Native.Nat.{ℕ, suc, _+_, _-_, _*_, _<_, _≤_}
+use mathlib.Core.Bool.{Bool, true, false≢true}
+use borrow.Author.Tests.{not-true, not-false}
+use borrow.Rule.Slice.PartMut.{putMid, take-put}
+use mathlib.Core.Path.{_≡_, refl, sym, ap, _∙_}
+use mathlib.Core.List.{_++_}
+use native.Mathlib.Omega.{arith}
+use lib.ListN.{length, take, drop}
+use lib.Seq.{length-front, length-take-le, take-at}
+use borrow.Author.Needs.{needs}
+use Rattle.semantics.specs.Structure.{count}
+use Rattle.sets.specs.Set.{member, Within}
+use Rattle.sets.specs.Word.{Greatest}
+use Rattle.wide.specs.Wide.{wideAt}
+use Rattle.counting.specs.Question.{problemOf}
+use Rattle.counting.specs.Search.{At, Asked, Nearer, toDo}
+use Rattle.satisfy.specs.World.{Branch}
+use Rattle.satisfy.specs.Promise.{Promised}
+use Rattle.satisfy.specs.Relation.{counting}
+use Rattle.satisfy.specs.Asking.{Solving, Roomy, Remembers}
+use Rattle.satisfy.proofs.Worlds.{case-answer, solving-none, solving-next, solving-done, solved-world, unsolved, room-below, room-level}
+use Rattle.satisfy.proofs.Promises.{promising-fewer}
+use Rattle.satisfy.proofs.Pairs.{within-removed, chosen-below, pair-asked, pair-opposed}
+use Rattle.semantics.proofs.Count.{count-le}
+use Rattle.wants.proofs.Members.{count-removed}
+use Rattle.satisfy.proofs.Calls.{ready-leaf, ready-wider, ready-bounded, world-answer, promised-fit, counting-below, counting-deep, question-small, question-promising, count-done, room-kept, length-behind, own-solution, own-no-solution, own-asking, promised-unfit, within-same}
+use Rattle.satisfy.proofs.Recalling.{room-depth, from-fits, memory-from, memory-to, memory-below, memory-above, memory-over, next-same}
+use Rattle.sets.specs.Set.{removed, either}
+use Rattle.counting.specs.Question.{Closed}
+use Rattle.tableau.proofs.Together.{together}
+use Rattle.satisfy.specs.Asking.{listRoom}
+use Rattle.satisfy.specs.Listing.{Unkept, ListedMore, listOf}
+use Rattle.satisfy.proofs.Promises.{promise-below}
+use Rattle.satisfy.proofs.Largest.{either-fewer, either-right, removed-fewer, moved-within, code-above, either-made, added-within, removed-within, unfit-unkept, room-placed, lists-kept, listing-same, listing-from, listing-also, reaches-none, reaches-known, listing-branch, core-had, reaches-unkept, listing-covers, lists-none, parts-within, parts-inside}
+use Rattle.tableau.specs.Search.{asking}
+use Rattle.tableau.proofs.Tests.{both-parts}
+use Rattle.satisfy.specs.Force.{Forced}
+use Rattle.satisfy.proofs.Forcing.{forced-answer}
+use mathlib.Core.Logic._⊎_.{inl, inr}
+use native.Mathlib.Numerals.{add-one}
+use Rattle.table.specs.Space.{gradeSum}
+use Rattle.tableau.proofs.Ends.{found}
+use Rattle.counting.specs.Stack.{Few}
+use Rattle.counting.proofs.Standing.{serving-few}
+use Rattle.satisfy.specs.Greedy.{FitIfAny, Taken}
+use Rattle.satisfy.proofs.Greedy.{promising-of, taken-none, taken-below, taken-kept, taken-room, taken-more, fit-useful, memory-put}
+use Rattle.satisfy.proofs.Largest.{either-left, either-made, added-within}
+use Rattle.tableau.specs.Wants.{wanted}
+use Rattle.satisfy.proofs.Largest.{narrowed-fewer, narrowed-solvable}
+use borrow.Fn.Kinds.{In}
+use borrow.Fn.PlainCycle.{Measures, is, falls, and}
+use Rattle.satisfy.proofs.world.branches.Reads as branches
+use Rattle.satisfy.proofs.world.branches.Kinds as branches-kinds
+use Rattle.satisfy.proofs.world.+branches+by_asking+by_list+case_holds+core_of+greedy+grown+keeps+largest+next+opposed+past_list+refuted+relations+solve+split+world.Lts-branches as branches-lts
+use Rattle.satisfy.proofs.world.by_asking.Reads as by-asking
+use Rattle.satisfy.proofs.world.by_asking.Kinds as by-asking-kinds
+use Rattle.satisfy.proofs.world.+branches+by_asking+by_list+case_holds+core_of+greedy+grown+keeps+largest+next+opposed+past_list+refuted+relations+solve+split+world.Lts-by_asking as by-asking-lts
+use Rattle.satisfy.proofs.world.by_list.Reads as by-list
+use Rattle.satisfy.proofs.world.by_list.Kinds as by-list-kinds
+use Rattle.satisfy.proofs.world.+branches+by_asking+by_list+case_holds+core_of+greedy+grown+keeps+largest+next+opposed+past_list+refuted+relations+solve+split+world.Lts-by_list as by-list-lts
+use Rattle.satisfy.proofs.world.case_holds.Reads as case-holds
+use Rattle.satisfy.proofs.world.case_holds.Kinds as case-holds-kinds
+use Rattle.satisfy.proofs.world.+branches+by_asking+by_list+case_holds+core_of+greedy+grown+keeps+largest+next+opposed+past_list+refuted+relations+solve+split+world.Lts-case_holds as case-holds-lts
+use Rattle.satisfy.proofs.world.core_of.Reads as core-of
+use Rattle.satisfy.proofs.world.core_of.Kinds as core-of-kinds
+use Rattle.satisfy.proofs.world.+branches+by_asking+by_list+case_holds+core_of+greedy+grown+keeps+largest+next+opposed+past_list+refuted+relations+solve+split+world.Lts-core_of as core-of-lts
+use Rattle.satisfy.proofs.world.greedy.Reads as greedy
+use Rattle.satisfy.proofs.world.greedy.Kinds as greedy-kinds
+use Rattle.satisfy.proofs.world.+branches+by_asking+by_list+case_holds+core_of+greedy+grown+keeps+largest+next+opposed+past_list+refuted+relations+solve+split+world.Lts-greedy as greedy-lts
+use Rattle.satisfy.proofs.world.grown.Reads as grown
+use Rattle.satisfy.proofs.world.grown.Kinds as grown-kinds
+use Rattle.satisfy.proofs.world.+branches+by_asking+by_list+case_holds+core_of+greedy+grown+keeps+largest+next+opposed+past_list+refuted+relations+solve+split+world.Lts-grown as grown-lts
+use Rattle.satisfy.proofs.world.keeps.Reads as keeps
+use Rattle.satisfy.proofs.world.keeps.Kinds as keeps-kinds
+use Rattle.satisfy.proofs.world.+branches+by_asking+by_list+case_holds+core_of+greedy+grown+keeps+largest+next+opposed+past_list+refuted+relations+solve+split+world.Lts-keeps as keeps-lts
+use Rattle.satisfy.proofs.world.largest.Reads as largest
+use Rattle.satisfy.proofs.world.largest.Kinds as largest-kinds
+use Rattle.satisfy.proofs.world.+branches+by_asking+by_list+case_holds+core_of+greedy+grown+keeps+largest+next+opposed+past_list+refuted+relations+solve+split+world.Lts-largest as largest-lts
+use Rattle.satisfy.proofs.world.next.Reads as next
+use Rattle.satisfy.proofs.world.next.Kinds as next-kinds
+use Rattle.satisfy.proofs.world.+branches+by_asking+by_list+case_holds+core_of+greedy+grown+keeps+largest+next+opposed+past_list+refuted+relations+solve+split+world.Lts-next as next-lts
+use Rattle.satisfy.proofs.world.opposed.Reads as opposed
+use Rattle.satisfy.proofs.world.opposed.Kinds as opposed-kinds
+use Rattle.satisfy.proofs.world.+branches+by_asking+by_list+case_holds+core_of+greedy+grown+keeps+largest+next+opposed+past_list+refuted+relations+solve+split+world.Lts-opposed as opposed-lts
+use Rattle.satisfy.proofs.world.past_list.Reads as past-list
+use Rattle.satisfy.proofs.world.past_list.Kinds as past-list-kinds
+use Rattle.satisfy.proofs.world.+branches+by_asking+by_list+case_holds+core_of+greedy+grown+keeps+largest+next+opposed+past_list+refuted+relations+solve+split+world.Lts-past_list as past-list-lts
+use Rattle.satisfy.proofs.world.refuted.Reads as refuted
+use Rattle.satisfy.proofs.world.refuted.Kinds as refuted-kinds
+use Rattle.satisfy.proofs.world.+branches+by_asking+by_list+case_holds+core_of+greedy+grown+keeps+largest+next+opposed+past_list+refuted+relations+solve+split+world.Lts-refuted as refuted-lts
+use Rattle.satisfy.proofs.world.relations.Reads as relations
+use Rattle.satisfy.proofs.world.relations.Kinds as relations-kinds
+use Rattle.satisfy.proofs.world.+branches+by_asking+by_list+case_holds+core_of+greedy+grown+keeps+largest+next+opposed+past_list+refuted+relations+solve+split+world.Lts-relations as relations-lts
+use Rattle.satisfy.proofs.world.solve.Reads as solve
+use Rattle.satisfy.proofs.world.solve.Kinds as solve-kinds
+use Rattle.satisfy.proofs.world.+branches+by_asking+by_list+case_holds+core_of+greedy+grown+keeps+largest+next+opposed+past_list+refuted+relations+solve+split+world.Lts-solve as solve-lts
+use Rattle.satisfy.proofs.world.split.Reads as split
+use Rattle.satisfy.proofs.world.split.Kinds as split-kinds
+use Rattle.satisfy.proofs.world.+branches+by_asking+by_list+case_holds+core_of+greedy+grown+keeps+largest+next+opposed+past_list+refuted+relations+solve+split+world.Lts-split as split-lts
+use Rattle.satisfy.proofs.world.world.Reads as world
+use Rattle.satisfy.proofs.world.world.Kinds as world-kinds
+use Rattle.satisfy.proofs.world.+branches+by_asking+by_list+case_holds+core_of+greedy+grown+keeps+largest+next+opposed+past_list+refuted+relations+solve+split+world.Lts-world as world-lts
+use Rattle.counting.proofs.bounds.met.Reads as met-reads
+use Rattle.counting.proofs.bounds.unmet.Reads as unmet-reads
+use Rattle.counting.proofs.bounds.used_up.Reads as used-up-reads
+use Rattle.counting.proofs.bounds.useful.Reads as useful-reads
+use Rattle.counting.proofs.question.asking.Reads as asking-reads
+use Rattle.counting.proofs.question.closed.Reads as closed-reads
+use Rattle.counting.proofs.question.exceeds.Reads as exceeds-reads
+use Rattle.counting.proofs.question.has_need.Reads as has-need-reads
+use Rattle.counting.proofs.search.Reads as search-reads
+use Rattle.counting.proofs.skip.Reads as skip-reads
+use Rattle.counting.proofs.stack.put_slot.Reads as put-slot-reads
+use Rattle.counting.proofs.start.Reads as start-reads
+use Rattle.counting.proofs.take.Reads as take-reads
+use Rattle.memory.proofs.recall.Reads as recall-reads
+use Rattle.memory.proofs.remember.Reads as remember-reads
+use Rattle.satisfy.proofs.branch.branch.Reads as branch-reads
+use Rattle.satisfy.proofs.force.force.Reads as force-reads
+use Rattle.satisfy.proofs.listing.also.Reads as also-reads
+use Rattle.satisfy.proofs.listing.highest_of.Reads as highest-of-reads
+use Rattle.satisfy.proofs.listing.known.Reads as known-reads
+use Rattle.satisfy.proofs.listing.narrowed.Reads as narrowed-reads
+use Rattle.satisfy.proofs.listing.selected.Reads as selected-reads
+use Rattle.satisfy.proofs.listing.weighed.Reads as weighed-reads
+use Rattle.satisfy.proofs.promise.pair.Reads as pair-reads
+use Rattle.satisfy.proofs.promise.promised.Reads as promised-reads
+use Rattle.satisfy.proofs.relation.counted.Reads as counted-reads
+use Rattle.satisfy.proofs.relation.question_of.Reads as question-of-reads
+use Rattle.sets.proofs.Set.empty.Reads as empty-reads
+use Rattle.sets.proofs.Set.highest.Reads as highest-reads
+use Rattle.sets.proofs.Set.intersection.Reads as intersection-reads
+use Rattle.sets.proofs.Set.is_empty.Reads as is-empty-reads
+use Rattle.sets.proofs.Set.len.Reads as len-reads
+use Rattle.sets.proofs.Set.minus.Reads as minus-reads
+use Rattle.sets.proofs.Set.union.Reads as union-reads
+use Rattle.sets.proofs.Set.with.Reads as with-reads
+use Rattle.sets.proofs.Set.without.Reads as without-reads
+use Rattle.satisfy.proofs.world.+branches+by_asking+by_list+case_holds+core_of+greedy+grown+keeps+largest+next+opposed+past_list+refuted+relations+solve+split+world.{statement}
+use Rattle.satisfy.proofs.world.+branches+by_asking+by_list+case_holds+core_of+greedy+grown+keeps+largest+next+opposed+past_list+refuted+relations+solve+split+world.Tie.{close}
+
+-- The measure falls with the depth; within a world, with the bound on what is pending; and in a list, with the promises that are free.
+abbrev μ-branches : Measures 2 branches-kinds.ps ℕ
+μ-branches κs a = a .1 .1 .1 .1 .1 .1 .0 * 512 + (count (member (a .1 .1 .1 .0)) 64 + count (member (a .1 .1 .1 .0)) 64) + 4
+
+abbrev μ-by-asking : Measures 2 by-asking-kinds.ps ℕ
+μ-by-asking κs a = a .1 .1 .1 .0 * 512 + 3
+
+abbrev μ-by-list : Measures 2 by-list-kinds.ps ℕ
+μ-by-list κs a = a .1 .1 .1 .0 * 512 + 141
+
+abbrev μ-case-holds : Measures 2 case-holds-kinds.ps ℕ
+μ-case-holds κs a = a .1 .1 .1 .1 .1 .0 * 512 + (a .1 .1 .0 + a .1 .1 .0 + a .1 .1 .0) + 148
+
+abbrev μ-core-of : Measures 2 core-of-kinds.ps ℕ
+μ-core-of κs a = a .1 .1 .1 .1 .0 * 512 + 3
+
+abbrev μ-greedy : Measures 2 greedy-kinds.ps ℕ
+μ-greedy κs a = a .1 .1 .1 .0 * 512 + 4
+
+abbrev μ-grown : Measures 2 grown-kinds.ps ℕ
+μ-grown κs a = a .1 .1 .1 .1 .0 * 512 + 3
+
+abbrev μ-keeps : Measures 2 keeps-kinds.ps ℕ
+μ-keeps κs a = a .1 .1 .1 .0 * 512 + 2
+
+abbrev μ-largest : Measures 2 largest-kinds.ps ℕ
+μ-largest κs a = a .1 .1 .1 .1 .1 .0 * 512 + (count (member (a .1 .1 .1 .0)) 64 + count (member (a .1 .1 .1 .0)) 64) + 5
+
+abbrev μ-next : Measures 2 next-kinds.ps ℕ
+μ-next κs a = a .1 .1 .0 * 512 + 1
+
+abbrev μ-opposed : Measures 2 opposed-kinds.ps ℕ
+μ-opposed κs a = a .1 .1 .1 .0 * 512 + 3
+
+abbrev μ-past-list : Measures 2 past-list-kinds.ps ℕ
+μ-past-list κs a = a .1 .1 .1 .0 * 512 + 142
+
+abbrev μ-refuted : Measures 2 refuted-kinds.ps ℕ
+μ-refuted κs a = a .1 .1 .1 .0 * 512 + 145
+
+abbrev μ-relations : Measures 2 relations-kinds.ps ℕ
+μ-relations κs a = a .1 .1 .0 * 512 + 144
+
+abbrev μ-solve : Measures 2 solve-kinds.ps ℕ
+μ-solve κs a = a .1 .1 .1 .0 * 512 + 143
+
+abbrev μ-split : Measures 2 split-kinds.ps ℕ
+μ-split κs a = a .1 .1 .1 .1 .0 * 512 + (a .1 .1 .0 + a .1 .1 .0 + a .1 .1 .0) + 146
+
+abbrev μ-world : Measures 2 world-kinds.ps ℕ
+μ-world κs a = a .1 .1 .1 .1 .0 * 512 + (a .1 .1 .0 + a .1 .1 .0 + a .1 .1 .0) + 147
+
+abbrev branches-at : ℕ → In 2 branches-kinds.ps
+branches-at t = and 2 branches-kinds.ps (is 2 branches-kinds.ps μ-branches t) branches.Pre
+
+abbrev branches-below : ℕ → In 2 branches-kinds.ps
+branches-below t =
+    and 2 branches-kinds.ps (falls 2 branches-kinds.ps _<_ μ-branches t) branches.Pre
+
+abbrev by-asking-at : ℕ → In 2 by-asking-kinds.ps
+by-asking-at t = and 2 by-asking-kinds.ps (is 2 by-asking-kinds.ps μ-by-asking t) by-asking.Pre
+
+abbrev by-asking-below : ℕ → In 2 by-asking-kinds.ps
+by-asking-below t =
+    and 2 by-asking-kinds.ps (falls 2 by-asking-kinds.ps _<_ μ-by-asking t) by-asking.Pre
+
+abbrev by-list-at : ℕ → In 2 by-list-kinds.ps
+by-list-at t = and 2 by-list-kinds.ps (is 2 by-list-kinds.ps μ-by-list t) by-list.Pre
+
+abbrev by-list-below : ℕ → In 2 by-list-kinds.ps
+by-list-below t = and 2 by-list-kinds.ps (falls 2 by-list-kinds.ps _<_ μ-by-list t) by-list.Pre
+
+abbrev case-holds-at : ℕ → In 2 case-holds-kinds.ps
+case-holds-at t =
+    and 2 case-holds-kinds.ps (is 2 case-holds-kinds.ps μ-case-holds t) case-holds.Pre
+
+abbrev case-holds-below : ℕ → In 2 case-holds-kinds.ps
+case-holds-below t =
+    and 2 case-holds-kinds.ps (falls 2 case-holds-kinds.ps _<_ μ-case-holds t) case-holds.Pre
+
+abbrev core-of-at : ℕ → In 2 core-of-kinds.ps
+core-of-at t = and 2 core-of-kinds.ps (is 2 core-of-kinds.ps μ-core-of t) core-of.Pre
+
+abbrev core-of-below : ℕ → In 2 core-of-kinds.ps
+core-of-below t = and 2 core-of-kinds.ps (falls 2 core-of-kinds.ps _<_ μ-core-of t) core-of.Pre
+
+abbrev greedy-at : ℕ → In 2 greedy-kinds.ps
+greedy-at t = and 2 greedy-kinds.ps (is 2 greedy-kinds.ps μ-greedy t) greedy.Pre
+
+abbrev greedy-below : ℕ → In 2 greedy-kinds.ps
+greedy-below t = and 2 greedy-kinds.ps (falls 2 greedy-kinds.ps _<_ μ-greedy t) greedy.Pre
+
+abbrev grown-at : ℕ → In 2 grown-kinds.ps
+grown-at t = and 2 grown-kinds.ps (is 2 grown-kinds.ps μ-grown t) grown.Pre
+
+abbrev grown-below : ℕ → In 2 grown-kinds.ps
+grown-below t = and 2 grown-kinds.ps (falls 2 grown-kinds.ps _<_ μ-grown t) grown.Pre
+
+abbrev keeps-at : ℕ → In 2 keeps-kinds.ps
+keeps-at t = and 2 keeps-kinds.ps (is 2 keeps-kinds.ps μ-keeps t) keeps.Pre
+
+abbrev keeps-below : ℕ → In 2 keeps-kinds.ps
+keeps-below t = and 2 keeps-kinds.ps (falls 2 keeps-kinds.ps _<_ μ-keeps t) keeps.Pre
+
+abbrev largest-at : ℕ → In 2 largest-kinds.ps
+largest-at t = and 2 largest-kinds.ps (is 2 largest-kinds.ps μ-largest t) largest.Pre
+
+abbrev largest-below : ℕ → In 2 largest-kinds.ps
+largest-below t = and 2 largest-kinds.ps (falls 2 largest-kinds.ps _<_ μ-largest t) largest.Pre
+
+abbrev next-at : ℕ → In 2 next-kinds.ps
+next-at t = and 2 next-kinds.ps (is 2 next-kinds.ps μ-next t) next.Pre
+
+abbrev next-below : ℕ → In 2 next-kinds.ps
+next-below t = and 2 next-kinds.ps (falls 2 next-kinds.ps _<_ μ-next t) next.Pre
+
+abbrev opposed-at : ℕ → In 2 opposed-kinds.ps
+opposed-at t = and 2 opposed-kinds.ps (is 2 opposed-kinds.ps μ-opposed t) opposed.Pre
+
+abbrev opposed-below : ℕ → In 2 opposed-kinds.ps
+opposed-below t = and 2 opposed-kinds.ps (falls 2 opposed-kinds.ps _<_ μ-opposed t) opposed.Pre
+
+abbrev past-list-at : ℕ → In 2 past-list-kinds.ps
+past-list-at t = and 2 past-list-kinds.ps (is 2 past-list-kinds.ps μ-past-list t) past-list.Pre
+
+abbrev past-list-below : ℕ → In 2 past-list-kinds.ps
+past-list-below t =
+    and 2 past-list-kinds.ps (falls 2 past-list-kinds.ps _<_ μ-past-list t) past-list.Pre
+
+abbrev refuted-at : ℕ → In 2 refuted-kinds.ps
+refuted-at t = and 2 refuted-kinds.ps (is 2 refuted-kinds.ps μ-refuted t) refuted.Pre
+
+abbrev refuted-below : ℕ → In 2 refuted-kinds.ps
+refuted-below t = and 2 refuted-kinds.ps (falls 2 refuted-kinds.ps _<_ μ-refuted t) refuted.Pre
+
+abbrev relations-at : ℕ → In 2 relations-kinds.ps
+relations-at t = and 2 relations-kinds.ps (is 2 relations-kinds.ps μ-relations t) relations.Pre
+
+abbrev relations-below : ℕ → In 2 relations-kinds.ps
+relations-below t =
+    and 2 relations-kinds.ps (falls 2 relations-kinds.ps _<_ μ-relations t) relations.Pre
+
+abbrev solve-at : ℕ → In 2 solve-kinds.ps
+solve-at t = and 2 solve-kinds.ps (is 2 solve-kinds.ps μ-solve t) solve.Pre
+
+abbrev solve-below : ℕ → In 2 solve-kinds.ps
+solve-below t = and 2 solve-kinds.ps (falls 2 solve-kinds.ps _<_ μ-solve t) solve.Pre
+
+abbrev split-at : ℕ → In 2 split-kinds.ps
+split-at t = and 2 split-kinds.ps (is 2 split-kinds.ps μ-split t) split.Pre
+
+abbrev split-below : ℕ → In 2 split-kinds.ps
+split-below t = and 2 split-kinds.ps (falls 2 split-kinds.ps _<_ μ-split t) split.Pre
+
+abbrev world-at : ℕ → In 2 world-kinds.ps
+world-at t = and 2 world-kinds.ps (is 2 world-kinds.ps μ-world t) world.Pre
+
+abbrev world-below : ℕ → In 2 world-kinds.ps
+world-below t = and 2 world-kinds.ps (falls 2 world-kinds.ps _<_ μ-world t) world.Pre
+
+-- what each calls
+abbrev branches-calls : ℕ → branches-lts.Claims
+branches-calls t =
+    (highest-reads.Asked, highest-reads.Learnt, without-reads.Asked, without-reads.Learnt, largest-below t, largest.Post, with-reads.Asked, with-reads.Learnt, branches-below t, branches.Post)
+
+abbrev by-asking-calls : ℕ → by-asking-lts.Claims
+by-asking-calls t =
+    (start-reads.Asked, start-reads.Learnt, search-reads.Asked, search-reads.Learnt, keeps-below t, keeps.Post, take-reads.Asked, take-reads.Learnt, skip-reads.Asked, skip-reads.Learnt)
+
+abbrev by-list-calls : ℕ → by-list-lts.Claims
+by-list-calls t =
+    (closed-reads.Asked, closed-reads.Learnt, intersection-reads.Asked, intersection-reads.Learnt, minus-reads.Asked, minus-reads.Learnt, largest-below t, largest.Post, selected-reads.Asked, selected-reads.Learnt)
+
+abbrev case-holds-calls : ℕ → case-holds-lts.Claims
+case-holds-calls t =
+    (branch-reads.Asked, branch-reads.Learnt, world-below t, world.Post)
+
+abbrev core-of-calls : ℕ → core-of-lts.Claims
+core-of-calls t =
+    (highest-reads.Asked, highest-reads.Learnt, without-reads.Asked, without-reads.Learnt, union-reads.Asked, union-reads.Learnt, keeps-below t, keeps.Post)
+
+abbrev greedy-calls : ℕ → greedy-lts.Claims
+greedy-calls t =
+    (met-reads.Asked, met-reads.Learnt, unmet-reads.Asked, unmet-reads.Learnt, intersection-reads.Asked, intersection-reads.Learnt, used-up-reads.Asked, used-up-reads.Learnt, empty-reads.Asked, empty-reads.Learnt, highest-of-reads.Asked, highest-of-reads.Learnt, grown-below t, grown.Post, useful-reads.Asked, useful-reads.Learnt, put-slot-reads.Asked, put-slot-reads.Learnt)
+
+abbrev grown-calls : ℕ → grown-lts.Claims
+grown-calls t =
+    (highest-reads.Asked, highest-reads.Learnt, without-reads.Asked, without-reads.Learnt, with-reads.Asked, with-reads.Learnt, keeps-below t, keeps.Post)
+
+abbrev keeps-calls : ℕ → keeps-lts.Claims
+keeps-calls t =
+    (promised-reads.Asked, promised-reads.Learnt, next-below t, next.Post)
+
+abbrev largest-calls : ℕ → largest-lts.Claims
+largest-calls t =
+    (union-reads.Asked, union-reads.Learnt, has-need-reads.Asked, has-need-reads.Learnt, known-reads.Asked, known-reads.Learnt, keeps-below t, keeps.Post, also-reads.Asked, also-reads.Learnt, core-of-below t, core-of.Post, branches-below t, branches.Post)
+
+abbrev next-calls : ℕ → next-lts.Claims
+next-calls t =
+    (recall-reads.Asked, recall-reads.Learnt, empty-reads.Asked, empty-reads.Learnt, world-below t, world.Post, remember-reads.Asked, remember-reads.Learnt)
+
+abbrev opposed-calls : ℕ → opposed-lts.Claims
+opposed-calls t =
+    (len-reads.Asked, len-reads.Learnt, highest-reads.Asked, highest-reads.Learnt, without-reads.Asked, without-reads.Learnt, exceeds-reads.Asked, exceeds-reads.Learnt, pair-reads.Asked, pair-reads.Learnt, keeps-below t, keeps.Post)
+
+abbrev past-list-calls : ℕ → past-list-lts.Claims
+past-list-calls t =
+    (weighed-reads.Asked, weighed-reads.Learnt, narrowed-reads.Asked, narrowed-reads.Learnt, asking-reads.Asked, asking-reads.Learnt, by-list-below t, by-list.Post, by-asking-below t, by-asking.Post)
+
+abbrev refuted-calls : ℕ → refuted-lts.Claims
+refuted-calls t =
+    (is-empty-reads.Asked, is-empty-reads.Learnt, relations-below t, relations.Post)
+
+abbrev relations-calls : ℕ → relations-lts.Claims
+relations-calls t =
+    (counted-reads.Asked, counted-reads.Learnt, highest-reads.Asked, highest-reads.Learnt, question-of-reads.Asked, question-of-reads.Learnt, asking-reads.Asked, asking-reads.Learnt, solve-below t, solve.Post, minus-reads.Asked, minus-reads.Learnt)
+
+abbrev solve-calls : ℕ → solve-lts.Claims
+solve-calls t =
+    (keeps-below t, keeps.Post, opposed-below t, opposed.Post, greedy-below t, greedy.Post, by-list-below t, by-list.Post, past-list-below t, past-list.Post)
+
+abbrev split-calls : ℕ → split-lts.Claims
+split-calls t =
+    (highest-reads.Asked, highest-reads.Learnt, relations-below t, relations.Post, counted-reads.Asked, counted-reads.Learnt, minus-reads.Asked, minus-reads.Learnt, refuted-below t, refuted.Post, case-holds-below t, case-holds.Post)
+
+abbrev world-calls : ℕ → world-lts.Claims
+world-calls t =
+    (force-reads.Asked, force-reads.Learnt, split-below t, split.Post)
+
+case-holds-branch-requires : (t : ℕ) → case-holds-lts.Need-branch-requires (case-holds-calls t) (case-holds-at t) case-holds.Post
+case-holds-branch-requires t c κs = (c .before .before .pre .1 .ready, c .before .before .pre .1 .top)
+
+case-holds-enum-known-v : (t : ℕ) → case-holds-lts.Need-enum-known-v (case-holds-calls t) (case-holds-at t) case-holds.Post
+case-holds-enum-known-v t c = search needs
+
+-- the case at hand
+case-branch : (t : ℕ) (c : case-holds-lts.After-v (case-holds-calls t) (case-holds-at t) case-holds.Post)
+    → Branch (wideAt (c .before .before .before .before .before .args .entries .now)) (length (c .before .before .before .before .before .args .entries .now)) (c .before .before .before .before .before .args .case) (c .before .before .before .before .before .args .d) (c .before .before .before .before .before .args .w) (c .before .before .before .before .before .args .depth) (c .v .given .0 .0)
+case-branch t c = rw (c .v .given .1) at (c .before .before .branch .ensures)
+
+case-holds-world-requires : (t : ℕ) → case-holds-lts.Need-world-requires (case-holds-calls t) (case-holds-at t) case-holds.Post
+case-holds-world-requires t c κs =
+    let start = (c .before .before .before .before .before .before .before) in
+    let asked = start .pre .1 in
+    (omega (arith, start .pre .0), record { ready = case-branch t (c .before .before) .ready; small = omega (arith, asked .small); room = asked .room; memory = asked .memory })
+
+case-holds-enum-told : (t : ℕ) → case-holds-lts.Need-enum-told (case-holds-calls t) (case-holds-at t) case-holds.Post
+case-holds-enum-told t c = search needs
+
+case-holds-same-length : (t : ℕ) → case-holds-lts.Need-same-length (case-holds-calls t) (case-holds-at t) case-holds.Post
+case-holds-same-length t c = search needs
+
+case-holds-returns : (t : ℕ) → case-holds-lts.Need-returns (case-holds-calls t) (case-holds-at t) case-holds.Post
+case-holds-returns t c = (case-answer _ (c .before .before .world .result) (case-branch t (c .before .before .before .before .before)) (c .before .before .world .ensures .0), c .before .before .world .ensures .1)
+
+case-holds-returns-2 : (t : ℕ) → case-holds-lts.Need-returns-2 (case-holds-calls t) (case-holds-at t) case-holds.Post
+case-holds-returns-2 t c = (λ s u inside. (rw (c .enum-told .given .1) at (c .before .before .branch .ensures)) s u, c .before .before .before .before .before .pre .1 .memory)
+
+keeps-sub-promised : (t : ℕ) → keeps-lts.Need-sub-promised (keeps-calls t) (keeps-at t) keeps.Post
+keeps-sub-promised t c = search needs
+
+keeps-promised-requires : (t : ℕ) → keeps-lts.Need-promised-requires (keeps-calls t) (keeps-at t) keeps.Post
+keeps-promised-requires t c κs = c .before .before .pre .1 .promising
+
+keeps-enum-known-v : (t : ℕ) → keeps-lts.Need-enum-known-v (keeps-calls t) (keeps-at t) keeps.Post
+keeps-enum-known-v t c = search needs
+
+-- what the promises have come to
+made : (t : ℕ) (c : keeps-lts.After-v (keeps-calls t) (keeps-at t) keeps.Post)
+    → Promised (problemOf (c .before .before .before .before .before .args .entries .now) (c .before .before .before .before .before .args .q)) (member (c .before .before .before .before .before .args .promises)) (c .before .before .before .before .before .args .depth - 1) (c .v .given .0 .0)
+made t c = rw (c .v .given .1) at (c .before .before .promised .ensures)
+
+keeps-next-requires : (t : ℕ) → keeps-lts.Need-next-requires (keeps-calls t) (keeps-at t) keeps.Post
+keeps-next-requires t c κs =
+    let start = (c .before .before .before .before .before .before .before) in
+    let asked = start .pre .1 in
+    (omega (arith, start .pre .0), record { ready = made t (c .before .before) .ready; deep = asked .deep; room = asked .room; memory = asked .memory })
+
+keeps-enum-told : (t : ℕ) → keeps-lts.Need-enum-told (keeps-calls t) (keeps-at t) keeps.Post
+keeps-enum-told t c = search needs
+
+keeps-same-length : (t : ℕ) → keeps-lts.Need-same-length (keeps-calls t) (keeps-at t) keeps.Post
+keeps-same-length t c = search needs
+
+keeps-returns : (t : ℕ) → keeps-lts.Need-returns (keeps-calls t) (keeps-at t) keeps.Post
+keeps-returns t c =
+    let start = (c .before .before .before .before .before .before .before .before .before .before) in
+    let had = c .before .before .next .ensures in
+    record {
+      answers = promised-fit (problemOf (start .args .entries .now) (start .args .q)) (start .args .promises) (start .args .depth - 1) (start .pre .1 .promising) (made t (c .before .before .before .before .before)) (c .before .before .next .result) (had .answers);
+      same = had .same;
+      memory = had .memory;
+    }
+
+keeps-returns-2 : (t : ℕ) → keeps-lts.Need-returns-2 (keeps-calls t) (keeps-at t) keeps.Post
+keeps-returns-2 t c =
+    let start = (c .before .before .before .before .before) in
+    record {
+      answers = promised-unfit (problemOf (start .args .entries .now) (start .args .q)) (start .args .promises) (rw (c .enum-told .given .1) at (c .before .before .promised .ensures));
+      same = refl;
+      memory = start .pre .1 .memory;
+    }
+
+next-add-from : (t : ℕ) → next-lts.Need-add-from (next-calls t) (next-at t) next.Post
+next-add-from t c = omega (arith, room-depth (c .before .before .before .before .pre .1 .room), c .before .before .before .before .good .1 .1 .1 .1 .0)
+
+next-mul-from : (t : ℕ) → next-lts.Need-mul-from (next-calls t) (next-at t) next.Post
+next-mul-from t c = record { fits = from-fits (c .before .before .before .before .pre .1 .room) (omega (arith, c .before .before .before .before .good .1 .1 .1 .1 .0)) }
+
+next-recall-requires : (t : ℕ) → next-lts.Need-recall-requires (next-calls t) (next-at t) next.Post
+next-recall-requires t c κs = search needs
+
+next-enum-known-known : (t : ℕ) → next-lts.Need-enum-known-known (next-calls t) (next-at t) next.Post
+next-enum-known-known t c = search needs
+
+next-same-length : (t : ℕ) → next-lts.Need-same-length (next-calls t) (next-at t) next.Post
+next-same-length t c = search needs
+
+next-returns : (t : ℕ) → next-lts.Need-returns (next-calls t) (next-at t) next.Post
+next-returns t c =
+    let start = (c .before .before .before .before .before .before .before .before .before) in
+    record {
+      answers = rw (c .before .known .given .1) at (c .before .before .before .recall .ensures (wideAt (start .args .entries .now)) (memory-from (wideAt (start .args .entries .now)) (start .args .depth) (start .args .level) (start .args .work .now) (start .pre .1 .memory)));
+      same = refl;
+      memory = start .pre .1 .memory;
+    }
+
+next-enum-told : (t : ℕ) → next-lts.Need-enum-told (next-calls t) (next-at t) next.Post
+next-enum-told t c = search needs
+
+next-sub-world : (t : ℕ) → next-lts.Need-sub-world (next-calls t) (next-at t) next.Post
+next-sub-world t c = omega (arith, c .before .before .before .before .before .before .before .before .before .pre .1 .deep)
+
+next-mul-world : (t : ℕ) → next-lts.Need-mul-world (next-calls t) (next-at t) next.Post
+next-mul-world t c = omega (arith, room-level (c .before .before .before .before .before .before .before .before .before .pre .1 .room), c .before .before .before .before .before .before .before .before .before .good .1 .1 .1 .1 .0)
+
+next-sub-world-2 : (t : ℕ) → next-lts.Need-sub-world-2 (next-calls t) (next-at t) next.Post
+next-sub-world-2 t c = omega (arith, room-level (c .before .before .before .before .before .before .before .before .before .pre .1 .room))
+
+next-part-world-start : (t : ℕ) → next-lts.Need-part-world-start (next-calls t) (next-at t) next.Post
+next-part-world-start t c = room-level (c .before .before .before .before .before .before .before .before .before .pre .1 .room)
+
+next-part-world-end : (t : ℕ) → next-lts.Need-part-world-end (next-calls t) (next-at t) next.Post
+next-part-world-end t c = search needs
+
+next-world-requires : (t : ℕ) → next-lts.Need-world-requires (next-calls t) (next-at t) next.Post
+next-world-requires t c κs =
+    let start = (c .before .before .before .before .before .before .before .before .before .before) in
+    let asked = start .pre .1 in (
+      omega (arith, start .pre .0, asked .deep),
+      record {
+        ready = asked .ready;
+        small = omega arith;
+        room = room-kept (length-behind (start .args .work .now) (start .args .level)) (room-below (asked .room) (asked .deep));
+        memory = memory-below (wideAt (start .args .entries .now)) (start .args .work .now) (start .args .depth) (start .args .level) (asked .deep) (room-level (asked .room)) (asked .memory);
+      },
+    )
+
+next-remember-requires : (t : ℕ) → next-lts.Need-remember-requires (next-calls t) (next-at t) next.Post
+next-remember-requires t c κs = search needs
+
+next-same-length-2 : (t : ℕ) → next-lts.Need-same-length-2 (next-calls t) (next-at t) next.Post
+next-same-length-2 t c = search needs
+
+next-returns-2 : (t : ℕ) → next-lts.Need-returns-2 (next-calls t) (next-at t) next.Post
+next-returns-2 t c =
+    let start = (c .before .before .before .before .before .before .before .before .before .before .before .before .before .before .before .before .before) in
+    let asked = start .pre .1 in
+    let entry = wideAt (start .args .entries .now) in
+    let d = start .args .depth in
+    let level = start .args .level in
+    let work = start .args .work .now in
+    let stored = c .before .before .remember .ensures in
+    let worked = c .before .before .before .before .before .before .world .last .1 .1 .1 .1 .1 .1 .0 in
+    let mid = putMid level (length work - level) work worked in
+    let after = c .before .before .remember .last .0 in
+    record {
+      answers = c .before .before .before .before .before .before .world .ensures .0;
+      same = next-same d level after mid work (stored .same) (take-put level (length work - level) work worked (room-level (asked .room)));
+      memory = memory-to entry d level after
+          (stored .memory entry (memory-from entry d level mid (memory-above entry work d level (asked .deep) (room-level (asked .room)) worked (c .before .before .before .before .before .before .world .ensures .1))) (c .before .before .before .before .before .before .world .ensures .0));
+    }
+
+abbrev opposed-Inv-loop : opposed-lts.InvT-loop
+opposed-Inv-loop entries q all depth level work₀ needs₀ limits₀ work needs limits =
+    Within (member needs) (member all) × Within (member limits) (member all) × (length work ≡ length work₀) × (take level work ≡ take level work₀) × Remembers (wideAt entries) depth level work
+
+abbrev opposed-μ-loop : opposed-lts.MeasureT-loop
+opposed-μ-loop entries q all depth level work₀ needs₀ limits₀ work needs limits = count (member needs) (length entries) * 65 + count (member limits) (length entries)
+
+opposed-len-requires : (t : ℕ) → opposed-lts.Need-len-requires (opposed-calls t) (opposed-at t) opposed.Post opposed-Inv-loop opposed-μ-loop
+opposed-len-requires t c κs = search needs
+
+opposed-returns : (t : ℕ) → opposed-lts.Need-returns (opposed-calls t) (opposed-at t) opposed.Post opposed-Inv-loop opposed-μ-loop
+opposed-returns t c = record { answers = λ e. absurd (false≢true e); same = refl; memory = c .before .before .before .before .pre .1 .memory }
+
+opposed-loop-holds : (t : ℕ) → opposed-lts.Need-loop-holds (opposed-calls t) (opposed-at t) opposed.Post opposed-Inv-loop opposed-μ-loop
+opposed-loop-holds t c = (λ i h. h, λ i h. h, refl, refl, c .before .before .before .before .pre .1 .memory)
+
+opposed-highest-requires : (t : ℕ) → opposed-lts.Need-highest-requires (opposed-calls t) (opposed-at t) opposed.Post opposed-Inv-loop opposed-μ-loop
+opposed-highest-requires t c κs = search needs
+
+opposed-enum-known-i : (t : ℕ) → opposed-lts.Need-enum-known-i (opposed-calls t) (opposed-at t) opposed.Post opposed-Inv-loop opposed-μ-loop
+opposed-enum-known-i t c = search needs
+
+opposed-enum-told : (t : ℕ) → opposed-lts.Need-enum-told (opposed-calls t) (opposed-at t) opposed.Post opposed-Inv-loop opposed-μ-loop
+opposed-enum-told t c = search needs
+
+opposed-same-length : (t : ℕ) → opposed-lts.Need-same-length (opposed-calls t) (opposed-at t) opposed.Post opposed-Inv-loop opposed-μ-loop
+opposed-same-length t c = c .before .before .before .loop .inv .2
+
+opposed-returns-2 : (t : ℕ) → opposed-lts.Need-returns-2 (opposed-calls t) (opposed-at t) opposed.Post opposed-Inv-loop opposed-μ-loop
+opposed-returns-2 t c = record { answers = λ e. absurd (false≢true e); same = c .before .before .before .loop .inv .3; memory = c .before .before .before .loop .inv .4 }
+
+opposed-highest-requires-2 : (t : ℕ) → opposed-lts.Need-highest-requires-2 (opposed-calls t) (opposed-at t) opposed.Post opposed-Inv-loop opposed-μ-loop
+opposed-highest-requires-2 t c κs = search needs
+
+opposed-enum-known-j : (t : ℕ) → opposed-lts.Need-enum-known-j (opposed-calls t) (opposed-at t) opposed.Post opposed-Inv-loop opposed-μ-loop
+opposed-enum-known-j t c = search needs
+
+-- the two entries at hand
+first-in : (t : ℕ) (c : opposed-lts.After-i (opposed-calls t) (opposed-at t) opposed.Post opposed-Inv-loop opposed-μ-loop) → member (c .before .before .before .loop .needs) (c .i .given .0 .0) ≡ true
+first-in t c = (rw (c .i .given .1) at (c .before .before .highest .ensures)) .here
+
+first-below : (t : ℕ) (c : opposed-lts.After-i (opposed-calls t) (opposed-at t) opposed.Post opposed-Inv-loop opposed-μ-loop) → c .i .given .0 .0 < length (c .before .before .before .before .before .before .before .before .args .entries .now)
+first-below t c = chosen-below (c .before .before .before .before .before .before .before .before .pre .1) (c .before .before .before .loop .inv .0) _ (first-in t c)
+
+second-in : (t : ℕ) (c : opposed-lts.After-j (opposed-calls t) (opposed-at t) opposed.Post opposed-Inv-loop opposed-μ-loop) → member (c .before .before .before .before .before .before .before .loop .limits) (c .j .given .0 .0) ≡ true
+second-in t c = (rw (c .j .given .1) at (c .before .before .highest2 .ensures)) .here
+
+second-below : (t : ℕ) (c : opposed-lts.After-j (opposed-calls t) (opposed-at t) opposed.Post opposed-Inv-loop opposed-μ-loop) → c .j .given .0 .0 < length (c .before .before .before .before .before .before .before .before .before .before .before .before .args .entries .now)
+second-below t c = chosen-below (c .before .before .before .before .before .before .before .before .before .before .before .before .pre .1) (c .before .before .before .before .before .before .before .loop .inv .1) _ (second-in t c)
+
+opposed-without-requires : (t : ℕ) → opposed-lts.Need-without-requires (opposed-calls t) (opposed-at t) opposed.Post opposed-Inv-loop opposed-μ-loop
+opposed-without-requires t c κs = search needs
+
+opposed-exceeds-requires : (t : ℕ) → opposed-lts.Need-exceeds-requires (opposed-calls t) (opposed-at t) opposed.Post opposed-Inv-loop opposed-μ-loop
+opposed-exceeds-requires t c κs = (first-below t (c .before .before .before .before .before .before), second-below t (c .before .before))
+
+opposed-pair-requires : (t : ℕ) → opposed-lts.Need-pair-requires (opposed-calls t) (opposed-at t) opposed.Post opposed-Inv-loop opposed-μ-loop
+opposed-pair-requires t c κs = (omega (arith, first-below t (c .before .before .before .before .before .before .before .before), c .before .before .before .before .before .before .before .before .before .before .before .before .before .before .before .before .pre .1 .promising .few), omega (arith, second-below t (c .before .before .before .before), c .before .before .before .before .before .before .before .before .before .before .before .before .before .before .before .before .pre .1 .promising .few))
+
+opposed-keeps-requires : (t : ℕ) → opposed-lts.Need-keeps-requires (opposed-calls t) (opposed-at t) opposed.Post opposed-Inv-loop opposed-μ-loop
+opposed-keeps-requires t c κs =
+    let start = (c .before .before .before .before .before .before .before .before .before .before .before .before .before .before .before .before .before .before) in
+    let asked = start .pre .1 in (
+      omega (arith, start .pre .0),
+      record {
+        promising = pair-asked asked _ _ _ (c .before .pair .ensures) (c .before .before .before .before .before .before .before .before .before .before .before .before .before .loop .inv .0 _ (first-in t (c .before .before .before .before .before .before .before .before .before .before))) (c .before .before .before .before .before .before .before .before .before .before .before .before .before .loop .inv .1 _ (second-in t (c .before .before .before .before .before .before)));
+        deep = asked .deep;
+        room = room-kept (c .before .before .before .before .before .before .before .before .before .before .before .before .before .loop .inv .2) (asked .room);
+        memory = c .before .before .before .before .before .before .before .before .before .before .before .before .before .loop .inv .4;
+      },
+    )
+
+opposed-same-length-2 : (t : ℕ) → opposed-lts.Need-same-length-2 (opposed-calls t) (opposed-at t) opposed.Post opposed-Inv-loop opposed-μ-loop
+opposed-same-length-2 t c = c .before .before .before .keeps .kept .1 .1 .1 .1 .1 .0 ∙ c .before .before .before .before .before .before .before .before .before .before .before .before .before .before .before .before .before .loop .inv .2
+
+opposed-returns-3 : (t : ℕ) → opposed-lts.Need-returns-3 (opposed-calls t) (opposed-at t) opposed.Post opposed-Inv-loop opposed-μ-loop
+opposed-returns-3 t c = record {
+  answers = λ e. pair-opposed _ _ _ _ (c .before .before .before .before .before .pair .ensures) (c .before .before .before .before .before .before .before .exceeds .ensures (c .before .before .before .before .before .before .if2 .taken)) (rw (not-true (c .before .before .before .keeps .result) (c .if3 .taken)) at (c .before .before .before .keeps .ensures .answers));
+  same = c .before .before .before .keeps .ensures .same ∙ c .before .before .before .before .before .before .before .before .before .before .before .before .before .before .before .before .before .loop .inv .3;
+  memory = c .before .before .before .keeps .ensures .memory;
+}
+
+opposed-loop-less : (t : ℕ) → opposed-lts.Need-loop-less (opposed-calls t) (opposed-at t) opposed.Post opposed-Inv-loop opposed-μ-loop
+opposed-loop-less t c = rw (c .before .before .before .before .before .before .before .before .without .ensures) (omega (arith, count-removed (member (c .before .before .before .before .before .before .before .before .before .before .before .before .before .before .before .before .before .loop .limits)) _ (second-in t (c .before .before .before .before .before .before .before .before .before .before)) (second-below t (c .before .before .before .before .before .before .before .before .before .before))))
+
+opposed-loop-again : (t : ℕ) → opposed-lts.Need-loop-again (opposed-calls t) (opposed-at t) opposed.Post opposed-Inv-loop opposed-μ-loop
+opposed-loop-again t c = (
+  c .before .before .before .before .before .before .before .before .before .before .before .before .before .before .before .before .before .loop .inv .0,
+  rw (c .before .before .before .before .before .before .before .before .without .ensures) (within-removed _ (c .before .before .before .before .before .before .before .before .before .before .before .before .before .before .before .before .before .loop .inv .1)),
+  c .before .before .before .keeps .kept .1 .1 .1 .1 .1 .0 ∙ c .before .before .before .before .before .before .before .before .before .before .before .before .before .before .before .before .before .loop .inv .2,
+  c .before .before .before .keeps .ensures .same ∙ c .before .before .before .before .before .before .before .before .before .before .before .before .before .before .before .before .before .loop .inv .3,
+  c .before .before .before .keeps .ensures .memory,
+)
+
+opposed-loop-less-2 : (t : ℕ) → opposed-lts.Need-loop-less-2 (opposed-calls t) (opposed-at t) opposed.Post opposed-Inv-loop opposed-μ-loop
+opposed-loop-less-2 t c = rw (c .before .before .without .ensures) (omega (arith, count-removed (member (c .before .before .before .before .before .before .before .before .before .before .before .loop .limits)) _ (second-in t (c .before .before .before .before)) (second-below t (c .before .before .before .before))))
+
+opposed-loop-again-2 : (t : ℕ) → opposed-lts.Need-loop-again-2 (opposed-calls t) (opposed-at t) opposed.Post opposed-Inv-loop opposed-μ-loop
+opposed-loop-again-2 t c = (c .before .before .before .before .before .before .before .before .before .before .before .loop .inv .0, rw (c .before .before .without .ensures) (within-removed _ (c .before .before .before .before .before .before .before .before .before .before .before .loop .inv .1)), c .before .before .before .before .before .before .before .before .before .before .before .loop .inv .2, c .before .before .before .before .before .before .before .before .before .before .before .loop .inv .3, c .before .before .before .before .before .before .before .before .before .before .before .loop .inv .4)
+
+opposed-enum-told-2 : (t : ℕ) → opposed-lts.Need-enum-told-2 (opposed-calls t) (opposed-at t) opposed.Post opposed-Inv-loop opposed-μ-loop
+opposed-enum-told-2 t c = search needs
+
+opposed-without-requires-2 : (t : ℕ) → opposed-lts.Need-without-requires-2 (opposed-calls t) (opposed-at t) opposed.Post opposed-Inv-loop opposed-μ-loop
+opposed-without-requires-2 t c κs = search needs
+
+opposed-loop-less-3 : (t : ℕ) → opposed-lts.Need-loop-less-3 (opposed-calls t) (opposed-at t) opposed.Post opposed-Inv-loop opposed-μ-loop
+opposed-loop-less-3 t c =
+    rw (c .without2 .ensures)
+    (omega (arith, count-removed (member (c .before .before .before .before .before .before .before .before .loop .needs)) _ (first-in t (c .before .before .before .before .before)) (first-below t (c .before .before .before .before .before)), count-le (member (c .before .before .before .before .before .before .before .before .before .before .before .before .before .args .all)) (length (c .before .before .before .before .before .before .before .before .before .before .before .before .before .args .entries .now)), c .before .before .before .before .before .before .before .before .before .before .before .before .before .pre .1 .promising .few))
+
+opposed-loop-again-3 : (t : ℕ) → opposed-lts.Need-loop-again-3 (opposed-calls t) (opposed-at t) opposed.Post opposed-Inv-loop opposed-μ-loop
+opposed-loop-again-3 t c = (rw (c .without2 .ensures) (within-removed _ (c .before .before .before .before .before .before .before .before .loop .inv .0)), λ i h. h, c .before .before .before .before .before .before .before .before .loop .inv .2, c .before .before .before .before .before .before .before .before .loop .inv .3, c .before .before .before .before .before .before .before .before .loop .inv .4)
+
+abbrev relations-Inv-loop : relations-lts.InvT-loop
+relations-Inv-loop entries w depth level work₀ rest₀ work rest = Solving (wideAt entries) w (member rest) × (length work ≡ length work₀) × Remembers (wideAt entries) depth level work
+
+abbrev relations-μ-loop : relations-lts.MeasureT-loop
+relations-μ-loop entries w depth level work₀ rest₀ work rest = count (member rest) (length entries)
+
+relations-counted-requires : (t : ℕ) → relations-lts.Need-counted-requires (relations-calls t) (relations-at t) relations.Post relations-Inv-loop relations-μ-loop
+relations-counted-requires t c κs = ready-bounded (c .before .before .pre .1 .ready)
+
+relations-loop-holds : (t : ℕ) → relations-lts.Need-loop-holds (relations-calls t) (relations-at t) relations.Post relations-Inv-loop relations-μ-loop
+relations-loop-holds t c = (solving-none _ _ _ (c .counted .ensures), refl, c .before .before .before .pre .1 .memory)
+
+relations-highest-requires : (t : ℕ) → relations-lts.Need-highest-requires (relations-calls t) (relations-at t) relations.Post relations-Inv-loop relations-μ-loop
+relations-highest-requires t c κs = search needs
+
+relations-enum-known-i : (t : ℕ) → relations-lts.Need-enum-known-i (relations-calls t) (relations-at t) relations.Post relations-Inv-loop relations-μ-loop
+relations-enum-known-i t c = search needs
+
+relations-enum-told : (t : ℕ) → relations-lts.Need-enum-told (relations-calls t) (relations-at t) relations.Post relations-Inv-loop relations-μ-loop
+relations-enum-told t c = search needs
+
+relations-same-length : (t : ℕ) → relations-lts.Need-same-length (relations-calls t) (relations-at t) relations.Post relations-Inv-loop relations-μ-loop
+relations-same-length t c = c .before .before .before .loop .inv .1
+
+relations-returns : (t : ℕ) → relations-lts.Need-returns (relations-calls t) (relations-at t) relations.Post relations-Inv-loop relations-μ-loop
+relations-returns t c = (solving-done _ _ (c .before .before .before .loop .inv .0) (rw (c .enum-told .given .1) at (c .before .before .highest .ensures)), c .before .before .before .loop .inv .2)
+
+relations-question-of-requires : (t : ℕ) → relations-lts.Need-question-of-requires (relations-calls t) (relations-at t) relations.Post relations-Inv-loop relations-μ-loop
+relations-question-of-requires t c κs = search needs
+
+-- an entry whose relation is still to be solved
+chosen : (t : ℕ) (c : relations-lts.After-i (relations-calls t) (relations-at t) relations.Post relations-Inv-loop relations-μ-loop)
+    → member (c .before .before .before .loop .rest) (c .i .given .0 .0) ≡ true
+chosen t c = (rw (c .i .given .1) at (c .before .before .highest .ensures)) .here
+
+counts : (t : ℕ) (c : relations-lts.After-i (relations-calls t) (relations-at t) relations.Post relations-Inv-loop relations-μ-loop)
+    → counting (c .before .before .before .before .before .before .before .args .w) (wideAt (c .before .before .before .before .before .before .before .args .entries .now) (c .i .given .0 .0)) (c .i .given .0 .0) ≡ true
+counts t c = c .before .before .before .loop .inv .0 .within _ (chosen t c)
+
+relations-asking-requires : (t : ℕ) → relations-lts.Need-asking-requires (relations-calls t) (relations-at t) relations.Post relations-Inv-loop relations-μ-loop
+relations-asking-requires t c κs = question-small (c .before .before .before .before .before .before .before .before .before .pre .1 .ready) (c .question-of .ensures)
+
+relations-solve-requires : (t : ℕ) → relations-lts.Need-solve-requires (relations-calls t) (relations-at t) relations.Post relations-Inv-loop relations-μ-loop
+relations-solve-requires t c κs =
+    let start = (c .before .before .before .before .before .before .before .before .before .before .before) in
+    let deep = counting-deep (start .pre .1 .ready) _ (counts t (c .before .before .before .before)) in (
+      omega (arith, start .pre .0),
+      record {
+        promising = question-promising (start .pre .1 .ready) (c .before .before .question-of .ensures) deep;
+        deep = deep;
+        all-asking = c .before .asking .ensures;
+        room = room-kept (c .before .before .before .before .before .before .before .loop .inv .1) (start .pre .1 .room);
+        memory = c .before .before .before .before .before .before .before .loop .inv .2;
+      },
+    )
+
+relations-same-length-2 : (t : ℕ) → relations-lts.Need-same-length-2 (relations-calls t) (relations-at t) relations.Post relations-Inv-loop relations-μ-loop
+relations-same-length-2 t c = c .before .before .before .solve .kept .1 .1 .1 .1 .1 .0 ∙ c .before .before .before .before .before .before .before .before .before .before .before .loop .inv .1
+
+relations-returns-2 : (t : ℕ) → relations-lts.Need-returns-2 (relations-calls t) (relations-at t) relations.Post relations-Inv-loop relations-μ-loop
+relations-returns-2 t c = (unsolved _ _ (c .before .before .before .before .before .before .before .before .before .before .before .before .before .before .before .pre .1 .ready) _ (own-no-solution (c .before .before .before .before .before .before .question-of .ensures) (rw (not-true (c .before .before .before .solve .result) (c .if1 .taken)) at (c .before .before .before .solve .ensures .0))), c .before .before .before .solve .ensures .1)
+
+relations-minus-requires : (t : ℕ) → relations-lts.Need-minus-requires (relations-calls t) (relations-at t) relations.Post relations-Inv-loop relations-μ-loop
+relations-minus-requires t c κs = search needs
+
+-- the entry is one of those that its relation asks for
+all-has : (t : ℕ) (c : relations-lts.After-asking (relations-calls t) (relations-at t) relations.Post relations-Inv-loop relations-μ-loop)
+    → member (c .asking .result) (c .before .before .before .i .given .0 .0) ≡ true
+all-has t c = ap (λ (p : ℕ → Bool). p (c .before .before .before .i .given .0 .0)) (c .asking .ensures) ∙ own-asking (c .before .question-of .ensures) _ (counts t (c .before .before .before))
+
+relations-loop-less : (t : ℕ) → relations-lts.Need-loop-less (relations-calls t) (relations-at t) relations.Post relations-Inv-loop relations-μ-loop
+relations-loop-less t c =
+    let i = c .before .before .before .before .before .before .before .before .before in
+    rw (c .minus .ensures)
+    (count-done _ (member (c .before .before .before .before .before .before .asking .result)) (chosen t i) (all-has t (c .before .before .before .before .before .before)) (counting-below (c .before .before .before .before .before .before .before .before .before .before .before .before .before .before .before .before .pre .1 .ready) _ (counts t i)))
+
+relations-loop-again : (t : ℕ) → relations-lts.Need-loop-again (relations-calls t) (relations-at t) relations.Post relations-Inv-loop relations-μ-loop
+relations-loop-again t c =
+    let own = c .before .before .before .before .before .before .before .question-of .ensures in (
+      rw (c .minus .ensures)
+          (solving-next _ _ _ (c .before .before .before .before .before .before .before .before .before .before .before .before .loop .inv .0) (own-solution own (rw (not-false (c .before .before .before .before .solve .result) (c .before .if1 .left)) at (c .before .before .before .before .solve .ensures .0))) _ (rw (own .yes, own .no, own .relation) at (c .before .before .before .before .before .before .asking .ensures))),
+      c .before .before .before .before .solve .kept .1 .1 .1 .1 .1 .0 ∙ c .before .before .before .before .before .before .before .before .before .before .before .before .loop .inv .1,
+      c .before .before .before .before .solve .ensures .1,
+    )
+
+abbrev by-asking-Inv-loop : by-asking-lts.InvT-loop
+by-asking-Inv-loop entries q all depth level work₀ at₀ work at =
+    At (problemOf entries q) all (take level work) at × (length work ≡ length work₀) × Remembers (wideAt entries) depth level work
+
+abbrev by-asking-μ-loop : by-asking-lts.MeasureT-loop
+by-asking-μ-loop entries q all depth level work₀ at₀ work at = toDo (take level work) at
+
+by-asking-start-requires : (t : ℕ) → by-asking-lts.Need-start-requires (by-asking-calls t) (by-asking-at t) by-asking.Post by-asking-Inv-loop by-asking-μ-loop
+by-asking-start-requires t c κs = search needs
+
+by-asking-loop-holds : (t : ℕ) → by-asking-lts.Need-loop-holds (by-asking-calls t) (by-asking-at t) by-asking.Post by-asking-Inv-loop by-asking-μ-loop
+by-asking-loop-holds t c =
+    let start = (c .before .before .before) in
+    let asked = start .pre .1 in (
+      c .start .ensures _ _ (record { few = asked .promising .few; below = asked .promising .below }) (asked .all-asking) (omega (arith, asked .room .stack, length-take-le (start .args .level) (start .args .work .now) (room-level (asked .room)))),
+      refl,
+      asked .memory,
+    )
+
+-- the level's words, lent to the search
+by-asking-slice-relend-prefix-search : (t : ℕ) → by-asking-lts.Need-slice-relend-prefix-search (by-asking-calls t) (by-asking-at t) by-asking.Post by-asking-Inv-loop by-asking-μ-loop
+by-asking-slice-relend-prefix-search t c = room-level (room-kept (c .loop .inv .1) (c .before .before .before .before .pre .1 .room))
+
+by-asking-slice-aggregate-search : (t : ℕ) → by-asking-lts.Need-slice-aggregate-search (by-asking-calls t) (by-asking-at t) by-asking.Post by-asking-Inv-loop by-asking-μ-loop
+by-asking-slice-aggregate-search t c = sym (length-take-le (c .before .before .before .before .before .args .level) (c .before .loop .work) (by-asking-slice-relend-prefix-search t (c .before)))
+
+by-asking-search-requires : (t : ℕ) → by-asking-lts.Need-search-requires (by-asking-calls t) (by-asking-at t) by-asking.Post by-asking-Inv-loop by-asking-μ-loop
+by-asking-search-requires t c κs = c .before .loop .inv .0
+
+-- as many have come back
+searched-level : (t : ℕ) (c : by-asking-lts.After-search (by-asking-calls t) (by-asking-at t) by-asking.Post by-asking-Inv-loop by-asking-μ-loop) → length (c .search .last .1 .1 .1 .0) ≡ c .before .before .before .before .before .before .args .level
+searched-level t c = c .search .kept .1 .1 .1 .0 ∙ length-take-le (c .before .before .before .before .before .before .args .level) (c .before .before .loop .work) (by-asking-slice-relend-prefix-search t (c .before .before))
+
+search-front : (t : ℕ) (c : by-asking-lts.After-search (by-asking-calls t) (by-asking-at t) by-asking.Post by-asking-Inv-loop by-asking-μ-loop)
+    → take (c .before .before .before .before .before .before .args .level) (c .search .last .1 .1 .1 .0 ++ drop (c .before .before .before .before .before .before .args .level) (c .before .before .loop .work)) ≡ c .search .last .1 .1 .1 .0
+search-front t c = take-at (c .search .last .1 .1 .1 .0) (drop (c .before .before .before .before .before .before .args .level) (c .before .before .loop .work)) (c .before .before .before .before .before .before .args .level) (searched-level t c)
+
+search-room : (t : ℕ) (c : by-asking-lts.After-search (by-asking-calls t) (by-asking-at t) by-asking.Post by-asking-Inv-loop by-asking-μ-loop)
+    → Roomy (wideAt (c .before .before .before .before .before .before .args .entries .now)) (length (c .before .before .before .before .before .before .args .entries .now)) (c .before .before .before .before .before .before .args .depth) (c .before .before .before .before .before .before .args .level) (length (c .search .last .1 .1 .1 .0 ++ drop (c .before .before .before .before .before .before .args .level) (c .before .before .loop .work)))
+search-room t c = room-kept (length-front (c .before .before .loop .work) (c .search .last .1 .1 .1 .0) (c .before .before .before .before .before .before .args .level) (c .search .kept .1 .1 .1 .0) ∙ c .before .before .loop .inv .1) (c .before .before .before .before .before .before .pre .1 .room)
+
+search-memory : (t : ℕ) (c : by-asking-lts.After-search (by-asking-calls t) (by-asking-at t) by-asking.Post by-asking-Inv-loop by-asking-μ-loop)
+    → Remembers (wideAt (c .before .before .before .before .before .before .args .entries .now)) (c .before .before .before .before .before .before .args .depth) (c .before .before .before .before .before .before .args .level) (c .search .last .1 .1 .1 .0 ++ drop (c .before .before .before .before .before .before .args .level) (c .before .before .loop .work))
+search-memory t c = memory-over (wideAt (c .before .before .before .before .before .before .args .entries .now)) (c .before .before .loop .work) (c .search .last .1 .1 .1 .0) (c .before .before .before .before .before .before .args .depth) (c .before .before .before .before .before .before .args .level) (searched-level t c) (c .before .before .loop .inv .2)
+
+by-asking-enum-told : (t : ℕ) → by-asking-lts.Need-enum-told (by-asking-calls t) (by-asking-at t) by-asking.Post by-asking-Inv-loop by-asking-μ-loop
+by-asking-enum-told t c = search needs
+
+by-asking-same-length : (t : ℕ) → by-asking-lts.Need-same-length (by-asking-calls t) (by-asking-at t) by-asking.Post by-asking-Inv-loop by-asking-μ-loop
+by-asking-same-length t c = length-front (c .before .before .before .before .before .before .loop .work) (c .before .before .before .before .search .last .1 .1 .1 .0) (c .before .before .before .before .before .before .before .before .before .before .args .level) (c .before .before .before .before .search .kept .1 .1 .1 .0) ∙ c .before .before .before .before .before .before .loop .inv .1
+
+by-asking-returns : (t : ℕ) → by-asking-lts.Need-returns (by-asking-calls t) (by-asking-at t) by-asking.Post by-asking-Inv-loop by-asking-μ-loop
+by-asking-returns t c = (rw (c .enum-told .given .1) at (c .before .before .before .before .search .ensures), search-memory t (c .before .before .before .before))
+
+by-asking-enum-told-2 : (t : ℕ) → by-asking-lts.Need-enum-told-2 (by-asking-calls t) (by-asking-at t) by-asking.Post by-asking-Inv-loop by-asking-μ-loop
+by-asking-enum-told-2 t c = search needs
+
+by-asking-same-length-2 : (t : ℕ) → by-asking-lts.Need-same-length-2 (by-asking-calls t) (by-asking-at t) by-asking.Post by-asking-Inv-loop by-asking-μ-loop
+by-asking-same-length-2 t c = length-front (c .before .before .before .before .before .before .loop .work) (c .before .before .before .before .search .last .1 .1 .1 .0) (c .before .before .before .before .before .before .before .before .before .before .args .level) (c .before .before .before .before .search .kept .1 .1 .1 .0) ∙ c .before .before .before .before .before .before .loop .inv .1
+
+by-asking-returns-2 : (t : ℕ) → by-asking-lts.Need-returns-2 (by-asking-calls t) (by-asking-at t) by-asking.Post by-asking-Inv-loop by-asking-μ-loop
+by-asking-returns-2 t c = (rw (c .enum-told2 .given .1) at (c .before .before .before .before .search .ensures), search-memory t (c .before .before .before .before))
+
+by-asking-enum-known-asked : (t : ℕ) → by-asking-lts.Need-enum-known-asked (by-asking-calls t) (by-asking-at t) by-asking.Post by-asking-Inv-loop by-asking-μ-loop
+by-asking-enum-known-asked t c = search needs
+
+-- what the search has asked for
+told : (t : ℕ) (c : by-asking-lts.After-asked (by-asking-calls t) (by-asking-at t) by-asking.Post by-asking-Inv-loop by-asking-μ-loop)
+    → Asked (problemOf (c .before .before .before .before .before .before .before .before .before .before .args .entries .now) (c .before .before .before .before .before .before .before .before .before .before .args .q)) (c .before .before .before .before .before .before .before .before .before .before .args .all) (c .before .before .before .before .search .last .1 .1 .1 .0) (c .asked .given .0 .0) (c .asked .given .0 .1 .0)
+    × (toDo (c .before .before .before .before .search .last .1 .1 .1 .0) (c .asked .given .0 .0) ≤ toDo (take (c .before .before .before .before .before .before .before .before .before .before .args .level) (c .before .before .before .before .before .before .loop .work)) (c .before .before .before .before .before .before .loop .at))
+told t c = rw (c .asked .given .1) at (c .before .before .before .before .search .ensures)
+
+by-asking-keeps-requires : (t : ℕ) → by-asking-lts.Need-keeps-requires (by-asking-calls t) (by-asking-at t) by-asking.Post by-asking-Inv-loop by-asking-μ-loop
+by-asking-keeps-requires t c κs =
+    let start = (c .before .before .before .before .before .before .before .before .before .before .before .before .before) in
+    let given = start .pre .1 in (
+      omega (arith, start .pre .0),
+      record {
+        promising = promising-fewer (given .promising) (within-same (given .all-asking) (told t (c .before .before .before) .0 .at .within));
+        deep = given .deep;
+        room = search-room t (c .before .before .before .before .before .before .before);
+        memory = search-memory t (c .before .before .before .before .before .before .before);
+      },
+    )
+
+-- the try has kept the level's words: what was asked is asked still, and there is no more to be done
+keeps-front : (t : ℕ) (c : by-asking-lts.After-keeps (by-asking-calls t) (by-asking-at t) by-asking.Post by-asking-Inv-loop by-asking-μ-loop) → take (c .before .before .before .before .before .before .before .before .before .before .before .before .before .before .args .level) (c .keeps .last .1 .1 .1 .1 .1 .0) ≡ c .before .before .before .before .before .before .before .before .search .last .1 .1 .1 .0
+keeps-front t c = c .keeps .ensures .same ∙ search-front t (c .before .before .before .before .before .before .before .before)
+
+keeps-fits : (t : ℕ) (c : by-asking-lts.After-keeps (by-asking-calls t) (by-asking-at t) by-asking.Post by-asking-Inv-loop by-asking-μ-loop) → c .before .before .before .before .before .before .before .before .before .before .before .before .before .before .args .level ≤ length (c .keeps .last .1 .1 .1 .1 .1 .0)
+keeps-fits t c = room-level (room-kept (c .keeps .kept .1 .1 .1 .1 .1 .0) (search-room t (c .before .before .before .before .before .before .before .before)))
+
+behind-keeps : (t : ℕ) (c : by-asking-lts.After-keeps (by-asking-calls t) (by-asking-at t) by-asking.Post by-asking-Inv-loop by-asking-μ-loop)
+    → Asked (problemOf (c .before .before .before .before .before .before .before .before .before .before .before .before .before .before .args .entries .now) (c .before .before .before .before .before .before .before .before .before .before .before .before .before .before .args .q)) (c .before .before .before .before .before .before .before .before .before .before .before .before .before .before .args .all) (take (c .before .before .before .before .before .before .before .before .before .before .before .before .before .before .args .level) (c .keeps .last .1 .1 .1 .1 .1 .0)) (c .before .before .before .before .asked .given .0 .0) (c .before .before .before .before .asked .given .0 .1 .0)
+behind-keeps t c = rw (keeps-front t c) (told t (c .before .before .before .before) .0)
+
+keeps-to-do : (t : ℕ) (c : by-asking-lts.After-keeps (by-asking-calls t) (by-asking-at t) by-asking.Post by-asking-Inv-loop by-asking-μ-loop)
+    → toDo (take (c .before .before .before .before .before .before .before .before .before .before .before .before .before .before .args .level) (c .keeps .last .1 .1 .1 .1 .1 .0)) (c .before .before .before .before .asked .given .0 .0) ≤ toDo (take (c .before .before .before .before .before .before .before .before .before .before .before .before .before .before .args .level) (c .before .before .before .before .before .before .before .before .before .before .loop .work)) (c .before .before .before .before .before .before .before .before .before .before .loop .at)
+keeps-to-do t c = rw (keeps-front t c) (told t (c .before .before .before .before) .1)
+
+by-asking-slice-relend-prefix-take : (t : ℕ) → by-asking-lts.Need-slice-relend-prefix-take (by-asking-calls t) (by-asking-at t) by-asking.Post by-asking-Inv-loop by-asking-μ-loop
+by-asking-slice-relend-prefix-take t c = keeps-fits t (c .before .before .before)
+
+by-asking-slice-aggregate-take : (t : ℕ) → by-asking-lts.Need-slice-aggregate-take (by-asking-calls t) (by-asking-at t) by-asking.Post by-asking-Inv-loop by-asking-μ-loop
+by-asking-slice-aggregate-take t c = sym (length-take-le (c .before .before .before .before .before .before .before .before .before .before .before .before .before .before .before .before .before .before .args .level) (c .before .before .before .before .keeps .last .1 .1 .1 .1 .1 .0) (keeps-fits t (c .before .before .before .before)))
+
+by-asking-take-requires : (t : ℕ) → by-asking-lts.Need-take-requires (by-asking-calls t) (by-asking-at t) by-asking.Post by-asking-Inv-loop by-asking-μ-loop
+by-asking-take-requires t c κs = (told t (c .before .before .before .before .before .before .before .before) .0 .at .within, behind-keeps t (c .before .before .before .before) .space)
+
+-- behind a set that can be kept
+behind-take : (t : ℕ) (c : by-asking-lts.After-take (by-asking-calls t) (by-asking-at t) by-asking.Post by-asking-Inv-loop by-asking-μ-loop)
+    → Nearer (problemOf (c .before .before .before .before .before .before .before .before .before .before .before .before .before .before .before .before .before .before .before .args .entries .now) (c .before .before .before .before .before .before .before .before .before .before .before .before .before .before .before .before .before .before .before .args .q)) (c .before .before .before .before .before .before .before .before .before .before .before .before .before .before .before .before .before .before .before .args .all) (c .take .last .0) (toDo (take (c .before .before .before .before .before .before .before .before .before .before .before .before .before .before .before .before .before .before .before .args .level) (c .before .before .before .before .before .keeps .last .1 .1 .1 .1 .1 .0)) (c .before .before .before .before .before .before .before .before .before .asked .given .0 .0)) (c .take .result)
+behind-take t c = c .take .ensures (problemOf (c .before .before .before .before .before .before .before .before .before .before .before .before .before .before .before .before .before .before .before .args .entries .now) (c .before .before .before .before .before .before .before .before .before .before .before .before .before .before .before .before .before .before .before .args .q)) (behind-keeps t (c .before .before .before .before .before)) (rw (c .before .before .if1 .taken) at (c .before .before .before .before .before .keeps .ensures .answers))
+
+taken-level : (t : ℕ) (c : by-asking-lts.After-take (by-asking-calls t) (by-asking-at t) by-asking.Post by-asking-Inv-loop by-asking-μ-loop) → length (c .take .last .0) ≡ c .before .before .before .before .before .before .before .before .before .before .before .before .before .before .before .before .before .before .before .args .level
+taken-level t c = c .take .kept .0 ∙ length-take-le (c .before .before .before .before .before .before .before .before .before .before .before .before .before .before .before .before .before .before .before .args .level) (c .before .before .before .before .before .keeps .last .1 .1 .1 .1 .1 .0) (keeps-fits t (c .before .before .before .before .before))
+
+take-front : (t : ℕ) (c : by-asking-lts.After-take (by-asking-calls t) (by-asking-at t) by-asking.Post by-asking-Inv-loop by-asking-μ-loop)
+    → take (c .before .before .before .before .before .before .before .before .before .before .before .before .before .before .before .before .before .before .before .args .level) (c .take .last .0 ++ drop (c .before .before .before .before .before .before .before .before .before .before .before .before .before .before .before .before .before .before .before .args .level) (c .before .before .before .before .before .keeps .last .1 .1 .1 .1 .1 .0)) ≡ c .take .last .0
+take-front t c = take-at (c .take .last .0) (drop (c .before .before .before .before .before .before .before .before .before .before .before .before .before .before .before .before .before .before .before .args .level) (c .before .before .before .before .before .keeps .last .1 .1 .1 .1 .1 .0)) (c .before .before .before .before .before .before .before .before .before .before .before .before .before .before .before .before .before .before .before .args .level) (taken-level t c)
+
+by-asking-loop-less : (t : ℕ) → by-asking-lts.Need-loop-less (by-asking-calls t) (by-asking-at t) by-asking.Post by-asking-Inv-loop by-asking-μ-loop
+by-asking-loop-less t c = rw (take-front t (c .before .before)) (omega (arith, behind-take t (c .before .before) .less, keeps-to-do t (c .before .before .before .before .before .before .before)))
+
+by-asking-loop-again : (t : ℕ) → by-asking-lts.Need-loop-again (by-asking-calls t) (by-asking-at t) by-asking.Post by-asking-Inv-loop by-asking-μ-loop
+by-asking-loop-again t c = (
+  rw (take-front t (c .before .before)) (behind-take t (c .before .before) .at),
+  length-front (c .before .before .before .before .before .before .before .keeps .last .1 .1 .1 .1 .1 .0) (c .before .before .take .last .0) (c .before .before .before .before .before .before .before .before .before .before .before .before .before .before .before .before .before .before .before .before .before .args .level) (c .before .before .take .kept .0) ∙ c .before .before .before .before .before .before .before .keeps .kept .1 .1 .1 .1 .1 .0 ∙ length-front (c .before .before .before .before .before .before .before .before .before .before .before .before .before .before .before .before .before .loop .work) (c .before .before .before .before .before .before .before .before .before .before .before .before .before .before .before .search .last .1 .1 .1 .0) (c .before .before .before .before .before .before .before .before .before .before .before .before .before .before .before .before .before .before .before .before .before .args .level) (c .before .before .before .before .before .before .before .before .before .before .before .before .before .before .before .search .kept .1 .1 .1 .0) ∙ c .before .before .before .before .before .before .before .before .before .before .before .before .before .before .before .before .before .loop .inv .1,
+  memory-over (wideAt (c .before .before .before .before .before .before .before .before .before .before .before .before .before .before .before .before .before .before .before .before .before .args .entries .now)) (c .before .before .before .before .before .before .before .keeps .last .1 .1 .1 .1 .1 .0) (c .before .before .take .last .0) (c .before .before .before .before .before .before .before .before .before .before .before .before .before .before .before .before .before .before .before .before .before .args .depth) (c .before .before .before .before .before .before .before .before .before .before .before .before .before .before .before .before .before .before .before .before .before .args .level) (taken-level t (c .before .before)) (c .before .before .before .before .before .before .before .keeps .ensures .memory),
+)
+
+by-asking-skip-requires : (t : ℕ) → by-asking-lts.Need-skip-requires (by-asking-calls t) (by-asking-at t) by-asking.Post by-asking-Inv-loop by-asking-μ-loop
+by-asking-skip-requires t c κs = told t (c .before .before .before .before .before .before .before) .0 .at .within
+
+-- behind a set that cannot be kept
+behind-skip : (t : ℕ) (c : by-asking-lts.After-skip (by-asking-calls t) (by-asking-at t) by-asking.Post by-asking-Inv-loop by-asking-μ-loop)
+    → Nearer (problemOf (c .before .before .before .before .before .before .before .before .before .before .before .before .before .before .before .before .before .before .args .entries .now) (c .before .before .before .before .before .before .before .before .before .before .before .before .before .before .before .before .before .before .args .q)) (c .before .before .before .before .before .before .before .before .before .before .before .before .before .before .before .before .before .before .args .all) (take (c .before .before .before .before .before .before .before .before .before .before .before .before .before .before .before .before .before .before .args .level) (c .before .before .before .before .keeps .last .1 .1 .1 .1 .1 .0)) (toDo (take (c .before .before .before .before .before .before .before .before .before .before .before .before .before .before .before .before .before .before .args .level) (c .before .before .before .before .keeps .last .1 .1 .1 .1 .1 .0)) (c .before .before .before .before .before .before .before .before .asked .given .0 .0)) (c .skip .result)
+behind-skip t c = c .skip .ensures (problemOf (c .before .before .before .before .before .before .before .before .before .before .before .before .before .before .before .before .before .before .args .entries .now) (c .before .before .before .before .before .before .before .before .before .before .before .before .before .before .before .before .before .before .args .q)) (take (c .before .before .before .before .before .before .before .before .before .before .before .before .before .before .before .before .before .before .args .level) (c .before .before .before .before .keeps .last .1 .1 .1 .1 .1 .0)) (c .before .before .before .before .before .before .before .before .asked .given .0 .1 .0) (behind-keeps t (c .before .before .before .before)) (rw (c .before .if1 .left) at (c .before .before .before .before .keeps .ensures .answers))
+
+by-asking-loop-less-2 : (t : ℕ) → by-asking-lts.Need-loop-less-2 (by-asking-calls t) (by-asking-at t) by-asking.Post by-asking-Inv-loop by-asking-μ-loop
+by-asking-loop-less-2 t c = omega (arith, behind-skip t c .less, keeps-to-do t (c .before .before .before .before))
+
+by-asking-loop-again-2 : (t : ℕ) → by-asking-lts.Need-loop-again-2 (by-asking-calls t) (by-asking-at t) by-asking.Post by-asking-Inv-loop by-asking-μ-loop
+by-asking-loop-again-2 t c = (behind-skip t c .at, c .before .before .before .before .keeps .kept .1 .1 .1 .1 .1 .0 ∙ length-front (c .before .before .before .before .before .before .before .before .before .before .before .before .before .before .loop .work) (c .before .before .before .before .before .before .before .before .before .before .before .before .search .last .1 .1 .1 .0) (c .before .before .before .before .before .before .before .before .before .before .before .before .before .before .before .before .before .before .args .level) (c .before .before .before .before .before .before .before .before .before .before .before .before .search .kept .1 .1 .1 .0) ∙ c .before .before .before .before .before .before .before .before .before .before .before .before .before .before .loop .inv .1, c .before .before .before .before .keeps .ensures .memory)
+
+-- ---- branches
+
+branches-highest-requires : (t : ℕ) → branches-lts.Need-highest-requires (branches-calls t) (branches-at t) branches.Post
+branches-highest-requires t c κs = search needs
+
+branches-enum-known-i : (t : ℕ) → branches-lts.Need-enum-known-i (branches-calls t) (branches-at t) branches.Post
+branches-enum-known-i t c = search needs
+
+branches-enum-told : (t : ℕ) → branches-lts.Need-enum-told (branches-calls t) (branches-at t) branches.Post
+branches-enum-told t c = search needs
+
+branches-returns : (t : ℕ) → branches-lts.Need-returns (branches-calls t) (branches-at t) branches.Post
+branches-returns t c =
+    let start = (c .before .before .before .before .before) in
+    let a = start .args in
+    let asked = start .pre .1 in
+    let P = problemOf (a .entries .now) (a .q) in
+    let high = either (member (a .low)) (member (a .free)) in
+    listing-same P (member (a .low)) high (a .depth) (a .level) (asked .list .lists) (asked .list .memory)
+    (reaches-unkept P (member (a .low)) (member (a .core)) high (listOf (length (a .entries .now)) (a .level) (a .work .now) (a .k)) (rw (c .enum-told .given .1) at (c .before .before .highest .ensures)) (asked .unkept))
+
+-- the member of the core at hand
+picked : (t : ℕ) (c : branches-lts.After-i (branches-calls t) (branches-at t) branches.Post) → member (c .before .before .before .before .before .args .core) (c .i .given .0 .0) ≡ true
+picked t c = (rw (c .i .given .1) at (c .before .before .highest .ensures)) .here
+
+picked-free : (t : ℕ) (c : branches-lts.After-i (branches-calls t) (branches-at t) branches.Post) → member (c .before .before .before .before .before .args .free) (c .i .given .0 .0) ≡ true
+picked-free t c = c .before .before .before .before .before .pre .1 .within _ (picked t c)
+
+picked-small : (t : ℕ) (c : branches-lts.After-i (branches-calls t) (branches-at t) branches.Post) → c .i .given .0 .0 < 64
+picked-small t c =
+    let a = c .before .before .before .before .before .args in
+    let asked = c .before .before .before .before .before .pre .1 .list in
+    omega (arith, promise-below (problemOf (a .entries .now) (a .q)) (either (member (a .low)) (member (a .free))) (a .depth - 1) (asked .promising) (c .i .given .0 .0) (either-right (member (a .low)) (member (a .free)) (c .i .given .0 .0) (picked-free t c)), asked .promising .few)
+
+fewer-free : (t : ℕ) (c : branches-lts.After-i (branches-calls t) (branches-at t) branches.Post) → count (removed (member (c .before .before .before .before .before .args .free)) (c .i .given .0 .0)) 64 < count (member (c .before .before .before .before .before .args .free)) 64
+fewer-free t c = count-removed (member (c .before .before .before .before .before .args .free)) 64 (picked-free t c) (picked-small t c)
+
+branches-without-requires : (t : ℕ) → branches-lts.Need-without-requires (branches-calls t) (branches-at t) branches.Post
+branches-without-requires t c κs = search needs
+
+branches-largest-requires : (t : ℕ) → branches-lts.Need-largest-requires (branches-calls t) (branches-at t) branches.Post
+branches-largest-requires t c κs =
+    let start = (c .before .before .before .before .before .before .before .before) in
+    let a = start .args in
+    let asked = start .pre .1 .list in
+    rw (c .before .without .ensures) (
+      omega (arith, start .pre .0, fewer-free t (c .before .before .before)),
+      record {
+        promising = promising-fewer (asked .promising) (either-fewer (member (a .low)) _ (member (a .free)) (removed-within (member (a .free)) (c .before .before .before .i .given .0 .0)));
+        deep = asked .deep;
+        room = asked .room;
+        memory = asked .memory;
+        lists = asked .lists;
+      },
+    )
+
+branches-enum-known-more : (t : ℕ) → branches-lts.Need-enum-known-more (branches-calls t) (branches-at t) branches.Post
+branches-enum-known-more t c = search needs
+
+branches-with-requires : (t : ℕ) → branches-lts.Need-with-requires (branches-calls t) (branches-at t) branches.Post
+branches-with-requires t c κs = picked-small t (c .before .before .before .before .before .before .before .before .before)
+
+branches-without-requires-2 : (t : ℕ) → branches-lts.Need-without-requires-2 (branches-calls t) (branches-at t) branches.Post
+branches-without-requires-2 t c κs = search needs
+
+-- what is listed without it
+listed-first : (t : ℕ) (c : branches-lts.After-more (branches-calls t) (branches-at t) branches.Post)
+    → ListedMore (problemOf (c .before .before .before .before .before .before .before .before .before .before .before .before .before .args .entries .now) (c .before .before .before .before .before .before .before .before .before .before .before .before .before .args .q)) (member (c .before .before .before .before .before .before .before .before .before .before .before .before .before .args .low)) (either (member (c .before .before .before .before .before .before .before .before .before .before .before .before .before .args .low)) (removed (member (c .before .before .before .before .before .before .before .before .before .before .before .before .before .args .free)) (c .before .before .before .before .before .before .before .before .i .given .0 .0))) (c .before .before .before .before .before .before .before .before .before .before .before .before .before .args .k) (c .before .before .before .before .before .before .before .before .before .before .before .before .before .args .depth) (c .before .before .before .before .before .before .before .before .before .before .before .before .before .args .level) (c .before .before .before .before .before .before .before .before .before .before .before .before .before .args .work .now) (c .before .before .before .before .largest .last .1 .1 .1 .1 .1 .1 .1 .0) (c .more .given .0 .0)
+listed-first t c = rw (c .more .given .1, c .before .before .before .before .before .before .without .ensures) at (c .before .before .before .before .largest .ensures)
+
+branches-branches-requires : (t : ℕ) → branches-lts.Need-branches-requires (branches-calls t) (branches-at t) branches.Post
+branches-branches-requires t c κs =
+    let start = (c .before .before .before .before .before .before .before .before .before .before .before .before .before .before .before .before .before) in
+    let a = start .args in
+    let asked = start .pre .1 in
+    let i = c .before .before .before .before .before .before .before .before .before .before .before .before .i .given .0 .0 in
+    let first = listed-first t (c .before .before .before .before) in
+    rw (c .before .before .with .ensures, c .before .before .before .before .before .before .before .before .before .before .without .ensures, c .before .without2 .ensures) (
+      omega (arith, start .pre .0, fewer-free t (c .before .before .before .before .before .before .before .before .before .before .before .before)),
+      record {
+        list = record {
+          promising = promising-fewer (asked .list .promising) (moved-within (member (a .low)) (member (a .free)) i (picked-free t (c .before .before .before .before .before .before .before .before .before .before .before .before)));
+          deep = asked .list .deep;
+          room = room-kept (c .before .before .before .before .before .before .before .before .largest .kept .1 .1 .1 .1 .1 .1 .1 .0) (asked .list .room);
+          memory = first .memory;
+          lists = first .lists;
+        };
+        within = removed-fewer (member (a .core)) (member (a .free)) i (asked .within);
+        unkept = core-had (problemOf (a .entries .now) (a .q)) (member (a .low)) (member (a .core)) i (asked .unkept);
+      },
+    )
+
+branches-enum-told-2 : (t : ℕ) → branches-lts.Need-enum-told-2 (branches-calls t) (branches-at t) branches.Post
+branches-enum-told-2 t c = search needs
+
+branches-same-length : (t : ℕ) → branches-lts.Need-same-length (branches-calls t) (branches-at t) branches.Post
+branches-same-length t c = c .before .before .branches .kept .1 .1 .1 .1 .1 .1 .1 .1 .0 ∙ c .before .before .before .before .before .before .before .before .before .before .before .largest .kept .1 .1 .1 .1 .1 .1 .1 .0
+
+branches-returns-2 : (t : ℕ) → branches-lts.Need-returns-2 (branches-calls t) (branches-at t) branches.Post
+branches-returns-2 t c =
+    let a = c .before .before .before .before .before .before .before .before .before .before .before .before .before .before .before .before .before .before .before .before .args in
+    listing-branch (problemOf (a .entries .now) (a .q)) (member (a .low)) (member (a .free)) (c .before .before .before .before .before .before .before .before .before .before .before .before .before .before .before .i .given .0 .0) (a .depth) (a .level) (c .before .before .before .before .before .before .before .more .given .0 .0) (a .work .now) (c .before .before .before .before .before .before .before .before .before .before .before .largest .last .1 .1 .1 .1 .1 .1 .1 .0) (c .before .before .branches .last .1 .1 .1 .1 .1 .1 .1 .1 .0)
+    (listed-first t (c .before .before .before .before .before .before .before)) (c .before .before .branches .result) (rw (c .before .before .before .before .before .with .ensures, c .before .before .before .before .before .before .before .before .before .before .before .before .before .without .ensures) at (c .before .before .branches .ensures))
+
+branches-same-length-2 : (t : ℕ) → branches-lts.Need-same-length-2 (branches-calls t) (branches-at t) branches.Post
+branches-same-length-2 t c = c .before .before .before .before .largest .kept .1 .1 .1 .1 .1 .1 .1 .0
+
+branches-returns-3 : (t : ℕ) → branches-lts.Need-returns-3 (branches-calls t) (branches-at t) branches.Post
+branches-returns-3 t c = rw (c .enum-told2 .given .1) at (c .before .before .before .before .largest .ensures)
+
+-- ---- core_of
+
+abbrev core-of-Inv-loop : core-of-lts.InvT-loop
+core-of-Inv-loop entries q low depth level work₀ core₀ rest₀ work core rest =
+    Within (member core) (member core₀) × Within (member rest) (member core₀) × Unkept (problemOf entries q) (either (member low) (member core)) × (length work ≡ length work₀) × (take level work ≡ take level work₀) × Remembers (wideAt entries) depth level work
+
+abbrev core-of-μ-loop : core-of-lts.MeasureT-loop
+core-of-μ-loop entries q low depth level work₀ core₀ rest₀ work core rest = count (member rest) 64
+
+core-of-loop-holds : (t : ℕ) → core-of-lts.Need-loop-holds (core-of-calls t) (core-of-at t) core-of.Post core-of-Inv-loop core-of-μ-loop
+core-of-loop-holds t c = (λ i h. h, λ i h. h, c .before .before .pre .1 .unkept, refl, refl, c .before .before .pre .1 .memory)
+
+core-of-highest-requires : (t : ℕ) → core-of-lts.Need-highest-requires (core-of-calls t) (core-of-at t) core-of.Post core-of-Inv-loop core-of-μ-loop
+core-of-highest-requires t c κs = search needs
+
+core-of-enum-known-i : (t : ℕ) → core-of-lts.Need-enum-known-i (core-of-calls t) (core-of-at t) core-of.Post core-of-Inv-loop core-of-μ-loop
+core-of-enum-known-i t c = search needs
+
+core-of-enum-told : (t : ℕ) → core-of-lts.Need-enum-told (core-of-calls t) (core-of-at t) core-of.Post core-of-Inv-loop core-of-μ-loop
+core-of-enum-told t c = search needs
+
+core-of-same-length : (t : ℕ) → core-of-lts.Need-same-length (core-of-calls t) (core-of-at t) core-of.Post core-of-Inv-loop core-of-μ-loop
+core-of-same-length t c = c .before .before .before .loop .inv .3
+
+core-of-returns : (t : ℕ) → core-of-lts.Need-returns (core-of-calls t) (core-of-at t) core-of.Post core-of-Inv-loop core-of-μ-loop
+core-of-returns t c = record { within = c .before .before .before .loop .inv .0; unkept = c .before .before .before .loop .inv .2; same = c .before .before .before .loop .inv .4; memory = c .before .before .before .loop .inv .5 }
+
+core-of-without-requires : (t : ℕ) → core-of-lts.Need-without-requires (core-of-calls t) (core-of-at t) core-of.Post core-of-Inv-loop core-of-μ-loop
+core-of-without-requires t c κs = search needs
+
+core-of-without-requires-2 : (t : ℕ) → core-of-lts.Need-without-requires-2 (core-of-calls t) (core-of-at t) core-of.Post core-of-Inv-loop core-of-μ-loop
+core-of-without-requires-2 t c κs = search needs
+
+core-of-union-requires : (t : ℕ) → core-of-lts.Need-union-requires (core-of-calls t) (core-of-at t) core-of.Post core-of-Inv-loop core-of-μ-loop
+core-of-union-requires t c κs = search needs
+
+-- the member that is tried to be left out
+tried : (t : ℕ) (c : core-of-lts.After-i (core-of-calls t) (core-of-at t) core-of.Post core-of-Inv-loop core-of-μ-loop) → member (c .before .before .before .loop .rest) (c .i .given .0 .0) ≡ true
+tried t c = (rw (c .i .given .1) at (c .before .before .highest .ensures)) .here
+
+tried-small : (t : ℕ) (c : core-of-lts.After-i (core-of-calls t) (core-of-at t) core-of.Post core-of-Inv-loop core-of-μ-loop) → c .i .given .0 .0 < 64
+tried-small t c =
+    let a = c .before .before .before .before .before .before .args in
+    let asked = c .before .before .before .before .before .before .pre .1 in
+    omega (arith, promise-below (problemOf (a .entries .now) (a .q)) (either (member (a .low)) (member (a .free))) (a .depth - 1) (asked .promising) (c .i .given .0 .0) (either-right (member (a .low)) (member (a .free)) (c .i .given .0 .0) (c .before .before .before .loop .inv .1 _ (tried t c))), asked .promising .few)
+
+core-of-keeps-requires : (t : ℕ) → core-of-lts.Need-keeps-requires (core-of-calls t) (core-of-at t) core-of.Post core-of-Inv-loop core-of-μ-loop
+core-of-keeps-requires t c κs =
+    let start = (c .before .before .before .before .before .before .before .before .before .before .before) in
+    let a = start .args in
+    let asked = start .pre .1 in
+    let inv = c .before .before .before .before .before .before .before .before .loop .inv in (
+      omega (arith, start .pre .0),
+      record {
+        promising = rw (c .before .union .ensures, c .before .before .without2 .ensures) (promising-fewer (asked .promising) (either-fewer (member (a .low)) _ (member (a .free)) (λ j h. inv .0 j (removed-within (member (c .before .before .before .before .before .before .before .before .loop .core)) (c .before .before .before .before .before .i .given .0 .0) j h))));
+        deep = asked .deep;
+        room = room-kept (inv .3) (asked .room);
+        memory = inv .5;
+      },
+    )
+
+core-of-loop-less : (t : ℕ) → core-of-lts.Need-loop-less (core-of-calls t) (core-of-at t) core-of.Post core-of-Inv-loop core-of-μ-loop
+core-of-loop-less t c = rw (c .before .before .before .before .before .before .before .without .ensures) (count-removed (member (c .before .before .before .before .before .before .before .before .before .before .before .before .loop .rest)) 64 (tried t (c .before .before .before .before .before .before .before .before .before)) (tried-small t (c .before .before .before .before .before .before .before .before .before)))
+
+core-of-loop-again : (t : ℕ) → core-of-lts.Need-loop-again (core-of-calls t) (core-of-at t) core-of.Post core-of-Inv-loop core-of-μ-loop
+core-of-loop-again t c =
+    let a = c .before .before .before .before .before .before .before .before .before .before .before .before .before .before .before .args in
+    let inv = c .before .before .before .before .before .before .before .before .before .before .before .before .loop .inv in
+    let P = problemOf (a .entries .now) (a .q) in
+    let unfit = rw (not-true (c .before .before .before .keeps .result) (c .if1 .taken)) at (c .before .before .before .keeps .ensures .answers) in (
+      rw (c .before .before .before .before .before .before .without2 .ensures) (λ j h. inv .0 j (removed-within (member (c .before .before .before .before .before .before .before .before .before .before .before .before .loop .core)) (c .before .before .before .before .before .before .before .before .before .i .given .0 .0) j h)),
+      rw (c .before .before .before .before .before .before .before .without .ensures) (λ j h. inv .1 j (removed-within (member (c .before .before .before .before .before .before .before .before .before .before .before .before .loop .rest)) (c .before .before .before .before .before .before .before .before .before .i .given .0 .0) j h)),
+      rw (c .before .before .before .before .before .union .ensures) at (unfit-unkept P (c .before .before .before .before .before .union .result) unfit),
+      c .before .before .before .keeps .kept .1 .1 .1 .1 .1 .0 ∙ inv .3,
+      c .before .before .before .keeps .ensures .same ∙ inv .4,
+      c .before .before .before .keeps .ensures .memory,
+    )
+
+core-of-loop-less-2 : (t : ℕ) → core-of-lts.Need-loop-less-2 (core-of-calls t) (core-of-at t) core-of.Post core-of-Inv-loop core-of-μ-loop
+core-of-loop-less-2 t c = rw (c .before .before .before .before .before .before .before .without .ensures) (count-removed (member (c .before .before .before .before .before .before .before .before .before .before .before .before .loop .rest)) 64 (tried t (c .before .before .before .before .before .before .before .before .before)) (tried-small t (c .before .before .before .before .before .before .before .before .before)))
+
+core-of-loop-again-2 : (t : ℕ) → core-of-lts.Need-loop-again-2 (core-of-calls t) (core-of-at t) core-of.Post core-of-Inv-loop core-of-μ-loop
+core-of-loop-again-2 t c =
+    let inv = c .before .before .before .before .before .before .before .before .before .before .before .before .loop .inv in (
+      inv .0,
+      rw (c .before .before .before .before .before .before .before .without .ensures) (λ j h. inv .1 j (removed-within (member (c .before .before .before .before .before .before .before .before .before .before .before .before .loop .rest)) (c .before .before .before .before .before .before .before .before .before .i .given .0 .0) j h)),
+      inv .2,
+      c .before .before .before .keeps .kept .1 .1 .1 .1 .1 .0 ∙ inv .3,
+      c .before .before .before .keeps .ensures .same ∙ inv .4,
+      c .before .before .before .keeps .ensures .memory,
+    )
+
+-- ---- largest
+
+largest-union-requires : (t : ℕ) → largest-lts.Need-union-requires (largest-calls t) (largest-at t) largest.Post
+largest-union-requires t c κs = search needs
+
+largest-has-need-requires : (t : ℕ) → largest-lts.Need-has-need-requires (largest-calls t) (largest-at t) largest.Post
+largest-has-need-requires t c κs = search needs
+
+largest-returns : (t : ℕ) → largest-lts.Need-returns (largest-calls t) (largest-at t) largest.Post
+largest-returns t c =
+    let start = (c .before .before .before .before .before) in
+    let a = start .args in
+    let asked = start .pre .1 in
+    let P = problemOf (a .entries .now) (a .q) in
+    let high = either (member (a .low)) (member (a .free)) in
+    listing-same P (member (a .low)) high (a .depth) (a .level) (asked .lists) (asked .memory)
+    (reaches-none P (c .before .before .union .result) (member (a .low)) high (listOf (length (a .entries .now)) (a .level) (a .work .now) (a .k)) (c .before .before .union .ensures) (c .before .has-need .ensures (not-true (c .before .has-need .result) (c .if1 .taken))))
+
+largest-known-requires : (t : ℕ) → largest-lts.Need-known-requires (largest-calls t) (largest-at t) largest.Post
+largest-known-requires t c κs =
+    let a = c .before .before .before .before .before .before .args in
+    let asked = c .before .before .before .before .before .before .pre .1 in
+    room-placed (problemOf (a .entries .now) (a .q)) (asked .promising .few) (asked .room) (asked .lists .some)
+
+largest-same-length : (t : ℕ) → largest-lts.Need-same-length (largest-calls t) (largest-at t) largest.Post
+largest-same-length t c = search needs
+
+largest-returns-2 : (t : ℕ) → largest-lts.Need-returns-2 (largest-calls t) (largest-at t) largest.Post
+largest-returns-2 t c =
+    let start = (c .before .before .before .before .before .before .before .before) in
+    let a = start .args in
+    let asked = start .pre .1 in
+    let P = problemOf (a .entries .now) (a .q) in
+    let high = either (member (a .low)) (member (a .free)) in
+    listing-same P (member (a .low)) high (a .depth) (a .level) (asked .lists) (asked .memory)
+    (reaches-known P (c .before .before .before .before .before .union .result) (member (a .low)) high (listOf (length (a .entries .now)) (a .level) (a .work .now) (a .k)) (c .before .before .before .before .before .union .ensures) (c .before .known .ensures (c .if2 .taken)))
+
+largest-keeps-requires : (t : ℕ) → largest-lts.Need-keeps-requires (largest-calls t) (largest-at t) largest.Post
+largest-keeps-requires t c κs =
+    let start = (c .before .before .before .before .before .before .before .before .before) in
+    let asked = start .pre .1 in
+    (omega (arith, start .pre .0), record { promising = rw (c .before .before .before .before .before .before .union .ensures) (asked .promising); deep = asked .deep; room = asked .room; memory = asked .memory })
+
+largest-also-requires : (t : ℕ) → largest-lts.Need-also-requires (largest-calls t) (largest-at t) largest.Post
+largest-also-requires t c κs =
+    let a = c .before .before .before .before .before .before .before .before .before .before .before .before .before .before .args in
+    let asked = c .before .before .before .before .before .before .before .before .before .before .before .before .before .before .pre .1 in
+    room-placed (problemOf (a .entries .now) (a .q)) (asked .promising .few) (room-kept (c .before .before .before .before .keeps .kept .1 .1 .1 .1 .1 .0) (asked .room)) (asked .lists .some)
+
+largest-same-length-2 : (t : ℕ) → largest-lts.Need-same-length-2 (largest-calls t) (largest-at t) largest.Post
+largest-same-length-2 t c = c .before .before .also .kept .1 .1 .1 .1 .0 ∙ c .before .before .before .before .before .before .before .keeps .kept .1 .1 .1 .1 .1 .0
+
+-- the level has room for a list
+list-fits : (t : ℕ) (c : largest-lts.Start (largest-calls t) (largest-at t) largest.Post) → listRoom (length (c .args .entries .now)) ≤ c .args .level
+list-fits t c = omega (arith, c .pre .1 .room .stack)
+
+largest-returns-3 : (t : ℕ) → largest-lts.Need-returns-3 (largest-calls t) (largest-at t) largest.Post
+largest-returns-3 t c =
+    let start = (c .before .before .before .before .before .before .before .before .before .before .before .before .before .before .before .before .before) in
+    let a = start .args in
+    let asked = start .pre .1 in
+    let P = problemOf (a .entries .now) (a .q) in
+    let high = either (member (a .low)) (member (a .free)) in
+    let mid = c .before .before .before .before .before .before .before .keeps .last .1 .1 .1 .1 .1 .0 in
+    let after = c .before .before .also .last .1 .1 .1 .1 .0 in
+    let same = c .before .before .before .before .before .before .before .keeps .ensures .same in
+    listing-from P (member (a .low)) high (a .depth) (a .level) (asked .lists .some) (list-fits t start) (a .work .now) mid after same (c .before .before .also .result)
+    (listing-also P (member (a .low)) high (a .depth) (a .level) mid after _ (list-fits t start) (lists-kept P (list-fits t start) (a .work .now) mid same (asked .lists)) (c .before .before .before .before .before .before .before .keeps .ensures .memory)
+    (rw (c .before .before .before .before .if3 .taken) at (c .before .before .before .before .before .before .before .keeps .ensures .answers)) (code-above (c .before .before .before .before .before .before .before .before .before .before .before .before .before .before .union .result) (c .before .before .before .before .before .before .before .before .before .before .before .before .before .before .union .ensures)) (c .before .before .also .result) (c .before .before .also .ensures))
+
+largest-core-of-requires : (t : ℕ) → largest-lts.Need-core-of-requires (largest-calls t) (largest-at t) largest.Post
+largest-core-of-requires t c κs =
+    let start = (c .before .before .before .before .before .before .before .before .before .before .before .before .before .before) in
+    let a = start .args in
+    let asked = start .pre .1 in
+    let unfit = rw (c .before .if3 .left) at (c .before .before .before .before .keeps .ensures .answers) in (
+      omega (arith, start .pre .0),
+      record {
+        promising = asked .promising;
+        unkept = rw (c .before .before .before .before .before .before .before .before .before .before .before .union .ensures) at (unfit-unkept (problemOf (a .entries .now) (a .q)) (c .before .before .before .before .before .before .before .before .before .before .before .union .result) unfit);
+        deep = asked .deep;
+        room = room-kept (c .before .before .before .before .keeps .kept .1 .1 .1 .1 .1 .0) (asked .room);
+        memory = c .before .before .before .before .keeps .ensures .memory;
+      },
+    )
+
+largest-branches-requires : (t : ℕ) → largest-lts.Need-branches-requires (largest-calls t) (largest-at t) largest.Post
+largest-branches-requires t c κs =
+    let start = (c .before .before .before .before .before .before .before .before .before .before .before .before .before .before .before .before .before .before) in
+    let a = start .args in
+    let asked = start .pre .1 in
+    let core = c .before .before .before .core-of .ensures in (
+      omega (arith, start .pre .0),
+      record {
+        list = record {
+          promising = asked .promising;
+          deep = asked .deep;
+          room = room-kept (c .before .before .before .core-of .kept .1 .1 .1 .1 .1 .1 .0 ∙ c .before .before .before .before .before .before .before .before .keeps .kept .1 .1 .1 .1 .1 .0) (asked .room);
+          memory = core .memory;
+          lists = lists-kept (problemOf (a .entries .now) (a .q)) (list-fits t start) (a .work .now) (c .before .before .before .core-of .last .1 .1 .1 .1 .1 .1 .0) (core .same ∙ c .before .before .before .before .before .before .before .before .keeps .ensures .same) (asked .lists);
+        };
+        within = core .within;
+        unkept = core .unkept;
+      },
+    )
+
+largest-same-length-3 : (t : ℕ) → largest-lts.Need-same-length-3 (largest-calls t) (largest-at t) largest.Post
+largest-same-length-3 t c = c .before .before .branches .kept .1 .1 .1 .1 .1 .1 .1 .1 .0 ∙ c .before .before .before .before .before .before .core-of .kept .1 .1 .1 .1 .1 .1 .0 ∙ c .before .before .before .before .before .before .before .before .before .before .before .keeps .kept .1 .1 .1 .1 .1 .0
+
+largest-returns-4 : (t : ℕ) → largest-lts.Need-returns-4 (largest-calls t) (largest-at t) largest.Post
+largest-returns-4 t c =
+    let start = (c .before .before .before .before .before .before .before .before .before .before .before .before .before .before .before .before .before .before .before .before .before) in
+    let a = start .args in
+    let asked = start .pre .1 in
+    listing-from (problemOf (a .entries .now) (a .q)) (member (a .low)) (either (member (a .low)) (member (a .free))) (a .depth) (a .level) (asked .lists .some) (list-fits t start) (a .work .now) (c .before .before .before .before .before .before .core-of .last .1 .1 .1 .1 .1 .1 .0) (c .before .before .branches .last .1 .1 .1 .1 .1 .1 .1 .1 .0)
+    (c .before .before .before .before .before .before .core-of .ensures .same ∙ c .before .before .before .before .before .before .before .before .before .before .before .keeps .ensures .same) (c .before .before .branches .result) (c .before .before .branches .ensures)
+
+-- ---- solve
+
+solve-keeps-requires : (t : ℕ) → solve-lts.Need-keeps-requires (solve-calls t) (solve-at t) solve.Post
+solve-keeps-requires t c κs =
+    let start = (c .before .before .before) in
+    let asked = start .pre .1 in
+    (omega (arith, start .pre .0), record { promising = rw (asked .all-asking) (asked .promising); deep = asked .deep; room = asked .room; memory = asked .memory })
+
+solve-same-length : (t : ℕ) → solve-lts.Need-same-length (solve-calls t) (solve-at t) solve.Post
+solve-same-length t c = c .before .before .before .keeps .kept .1 .1 .1 .1 .1 .0
+
+solve-returns : (t : ℕ) → solve-lts.Need-returns (solve-calls t) (solve-at t) solve.Post
+solve-returns t c =
+    let a = c .before .before .before .before .before .before .before .args in
+    let asked = c .before .before .before .before .before .before .before .pre .1 in (
+      together (problemOf (a .entries .now) (a .q)) (asked .promising .below) _ (code-above (a .all) (asked .all-asking)) (rw (c .if1 .taken) at (c .before .before .before .keeps .ensures .answers)),
+      c .before .before .before .keeps .ensures .memory,
+    )
+
+solve-opposed-requires : (t : ℕ) → solve-lts.Need-opposed-requires (solve-calls t) (solve-at t) solve.Post
+solve-opposed-requires t c κs =
+    let start = (c .before .before .before .before .before .before .before .before) in
+    let asked = start .pre .1 in
+    (omega (arith, start .pre .0), record { promising = asked .promising; deep = asked .deep; all-asking = asked .all-asking; room = room-kept (c .before .before .before .before .keeps .kept .1 .1 .1 .1 .1 .0) (asked .room); memory = c .before .before .before .before .keeps .ensures .memory })
+
+solve-same-length-2 : (t : ℕ) → solve-lts.Need-same-length-2 (solve-calls t) (solve-at t) solve.Post
+solve-same-length-2 t c = c .before .before .before .opposed .kept .1 .1 .1 .1 .1 .0 ∙ c .before .before .before .before .before .before .before .before .keeps .kept .1 .1 .1 .1 .1 .0
+
+solve-returns-2 : (t : ℕ) → solve-lts.Need-returns-2 (solve-calls t) (solve-at t) solve.Post
+solve-returns-2 t c = (c .before .before .before .opposed .ensures .answers (c .if2 .taken), c .before .before .before .opposed .ensures .memory)
+
+-- the limits that allow none, and the rest: all of the needs and limits, in two parts
+base-closed : (t : ℕ) (c : by-list-lts.After-minus (by-list-calls t) (by-list-at t) by-list.Post) → (i : ℕ) → member (c .before .intersection .result) i ≡ true → Closed (problemOf (c .before .before .before .before .before .args .entries .now) (c .before .before .before .before .before .args .q)) i
+base-closed t c i h = c .before .before .closed .ensures i (both-parts true (member (c .before .before .closed .result) i) _ (rw (c .before .intersection .ensures) at h) .0)
+
+base-all : (t : ℕ) (c : by-list-lts.After-minus (by-list-calls t) (by-list-at t) by-list.Post) → Within (member (c .before .intersection .result)) (member (c .before .before .before .before .before .args .all))
+base-all t c i h = both-parts true (member (c .before .before .closed .result) i) _ (rw (c .before .intersection .ensures) at h) .1
+
+parts-all : (t : ℕ) (c : by-list-lts.After-minus (by-list-calls t) (by-list-at t) by-list.Post) → Within (either (member (c .before .intersection .result)) (member (c .minus .result))) (asking (problemOf (c .before .before .before .before .before .args .entries .now) (c .before .before .before .before .before .args .q)))
+parts-all t c = within-same (c .before .before .before .before .before .pre .1 .all-asking) (rw (c .minus .ensures) (parts-inside (member (c .before .before .before .before .before .args .all)) (member (c .before .intersection .result)) (base-all t c)))
+
+all-parts : (t : ℕ) (c : by-list-lts.After-minus (by-list-calls t) (by-list-at t) by-list.Post) → Within (asking (problemOf (c .before .before .before .before .before .args .entries .now) (c .before .before .before .before .before .args .q))) (either (member (c .before .intersection .result)) (member (c .minus .result)))
+all-parts t c i h = rw (c .minus .ensures) (parts-within (member (c .before .before .before .before .before .args .all)) (member (c .before .intersection .result)) i (ap (λ (p : ℕ → Bool). p i) (c .before .before .before .before .before .pre .1 .all-asking) ∙ h))
+
+solve-enum-told : (t : ℕ) → solve-lts.Need-enum-told (solve-calls t) (solve-at t) solve.Post
+solve-enum-told t c = search needs
+
+solve-same-length-3 : (t : ℕ) → solve-lts.Need-same-length-3 (solve-calls t) (solve-at t) solve.Post
+solve-same-length-3 t c = c .before .before .before .greedy .kept .1 .1 .1 .1 .1 .0 ∙ c .before .before .before .before .before .before .before .before .opposed .kept .1 .1 .1 .1 .1 .0 ∙ c .before .before .before .before .before .before .before .before .before .before .before .before .before .keeps .kept .1 .1 .1 .1 .1 .0
+
+solve-returns-3 : (t : ℕ) → solve-lts.Need-returns-3 (solve-calls t) (solve-at t) solve.Post
+solve-returns-3 t c = (c .before .before .before .greedy .ensures .answers (c .if3 .taken), c .before .before .before .greedy .ensures .memory)
+
+solve-same-length-4 : (t : ℕ) → solve-lts.Need-same-length-4 (solve-calls t) (solve-at t) solve.Post
+solve-same-length-4 t c = c .before .before .before .before .by-list .kept .1 .1 .1 .1 .1 .0 ∙ c .before .before .before .before .before .before .before .before .before .greedy .kept .1 .1 .1 .1 .1 .0 ∙ c .before .before .before .before .before .before .before .before .before .before .before .before .before .before .opposed .kept .1 .1 .1 .1 .1 .0 ∙ c .before .before .before .before .before .before .before .before .before .before .before .before .before .before .before .before .before .before .before .keeps .kept .1 .1 .1 .1 .1 .0
+
+solve-returns-4 : (t : ℕ) → solve-lts.Need-returns-4 (solve-calls t) (solve-at t) solve.Post
+solve-returns-4 t c = rw (c .enum-told .given .1) at (c .before .before .before .before .by-list .ensures)
+
+split-highest-requires : (t : ℕ) → split-lts.Need-highest-requires (split-calls t) (split-at t) split.Post
+split-highest-requires t c κs = search needs
+
+split-enum-known-d : (t : ℕ) → split-lts.Need-enum-known-d (split-calls t) (split-at t) split.Post
+split-enum-known-d t c = search needs
+
+split-enum-told : (t : ℕ) → split-lts.Need-enum-told (split-calls t) (split-at t) split.Post
+split-enum-told t c = search needs
+
+-- the entry to split
+top : (t : ℕ) (c : split-lts.After-d (split-calls t) (split-at t) split.Post) → Greatest (member (c .before .before .before .before .before .before .args .w .pending)) (c .d .given .0 .0)
+top t c = rw (c .d .given .1) at (c .before .before .highest .ensures)
+
+split-relations-requires : (t : ℕ) → split-lts.Need-relations-requires (split-calls t) (split-at t) split.Post
+split-relations-requires t c κs =
+    let start = (c .before .before .before .before .before .before .before) in
+    let asked = start .pre .1 in
+    (omega (arith, start .pre .0), record { ready = ready-wider (asked .ready) (asked .small); room = asked .room; memory = asked .memory })
+
+split-same-length : (t : ℕ) → split-lts.Need-same-length (split-calls t) (split-at t) split.Post
+split-same-length t c = search needs
+
+split-returns : (t : ℕ) → split-lts.Need-returns (split-calls t) (split-at t) split.Post
+split-returns t c =
+    (solved-world _ _ (ready-leaf (c .before .before .before .before .before .before .before .before .before .before .pre .1 .ready) (rw (c .before .before .before .before .enum-told .given .1) at (c .before .before .before .before .before .before .highest .ensures))) (c .before .before .relations .result) (c .before .before .relations .ensures .0), c .before .before .relations .ensures .1)
+
+split-case-holds-requires : (t : ℕ) → split-lts.Need-case-holds-requires (split-calls t) (split-at t) split.Post
+split-case-holds-requires t c κs =
+    let start = (c .before .before .before .before .before .before .before .before .before .before .before .before .before .before .before) in
+    let asked = start .pre .1 in
+    let highest = top t (c .before .before .before .before .before .before .before .before .before) in
+    let below = asked .ready .pending-below _ (highest .here) in
+    (omega (arith, start .pre .0), record { ready = ready-wider (asked .ready) (asked .small); top = highest; small = omega (arith, asked .small); room = room-kept (c .before .before .before .before .refuted .kept .1 .1 .1 .1 .1 .0) (asked .room); memory = c .before .before .before .before .refuted .ensures .1 })
+
+split-same-length-2 : (t : ℕ) → split-lts.Need-same-length-2 (split-calls t) (split-at t) split.Post
+split-same-length-2 t c = search needs
+
+split-returns-2 : (t : ℕ) → split-lts.Need-returns-2 (split-calls t) (split-at t) split.Post
+split-returns-2 t c = (c .before .before .before .refuted .ensures .0 (c .if1 .taken), c .before .before .before .refuted .ensures .1)
+
+split-case-holds-requires-2 : (t : ℕ) → split-lts.Need-case-holds-requires-2 (split-calls t) (split-at t) split.Post
+split-case-holds-requires-2 t c κs =
+    let start = (c .before .before .before .before .before .before .before .before .before .before .before .before .before .before .before .before .before .before .before .before) in
+    let asked = start .pre .1 in
+    let highest = top t (c .before .before .before .before .before .before .before .before .before .before .before .before .before .before) in
+    let below = asked .ready .pending-below _ (highest .here) in
+    (omega (arith, start .pre .0), record { ready = ready-wider (asked .ready) (asked .small); top = highest; small = omega (arith, asked .small); room = room-kept (c .before .before .before .before .case-holds .kept .1 .1 .1 .1 .1 .1 .1 .0 ∙ c .before .before .before .before .before .before .before .before .before .refuted .kept .1 .1 .1 .1 .1 .0) (asked .room); memory = c .before .before .before .before .case-holds .ensures .1 })
+
+split-same-length-3 : (t : ℕ) → split-lts.Need-same-length-3 (split-calls t) (split-at t) split.Post
+split-same-length-3 t c = search needs
+
+split-returns-3 : (t : ℕ) → split-lts.Need-returns-3 (split-calls t) (split-at t) split.Post
+split-returns-3 t c = rw (c .if2 .taken) at (c .before .before .before .case-holds .ensures)
+
+refuted-is-empty-requires : (t : ℕ) → refuted-lts.Need-is-empty-requires (refuted-calls t) (refuted-at t) refuted.Post
+refuted-is-empty-requires t c κs = search needs
+
+refuted-returns : (t : ℕ) → refuted-lts.Need-returns (refuted-calls t) (refuted-at t) refuted.Post
+refuted-returns t c = (λ e. absurd (false≢true e), c .before .before .before .before .pre .1 .memory)
+
+refuted-relations-requires : (t : ℕ) → refuted-lts.Need-relations-requires (refuted-calls t) (refuted-at t) refuted.Post
+refuted-relations-requires t c κs =
+    let start = (c .before .before .before .before .before) in
+    let asked = start .pre .1 in
+    (omega (arith, start .pre .0), record { ready = asked .ready; room = asked .room; memory = asked .memory })
+
+refuted-same-length : (t : ℕ) → refuted-lts.Need-same-length (refuted-calls t) (refuted-at t) refuted.Post
+refuted-same-length t c = search needs
+
+refuted-returns-2 : (t : ℕ) → refuted-lts.Need-returns-2 (refuted-calls t) (refuted-at t) refuted.Post
+refuted-returns-2 t c = (λ e. rw (not-true (c .before .before .relations .result) e) at (c .before .before .relations .ensures .0), c .before .before .relations .ensures .1)
+
+split-counted-requires : (t : ℕ) → split-lts.Need-counted-requires (split-calls t) (split-at t) split.Post
+split-counted-requires t c κs = ready-bounded (c .before .before .before .before .before .before .before .pre .1 .ready)
+
+split-minus-requires : (t : ℕ) → split-lts.Need-minus-requires (split-calls t) (split-at t) split.Post
+split-minus-requires t c κs = search needs
+
+split-refuted-requires : (t : ℕ) → split-lts.Need-refuted-requires (split-calls t) (split-at t) split.Post
+split-refuted-requires t c κs =
+    let start = (c .before .before .before .before .before .before .before .before .before .before) in
+    let asked = start .pre .1 in
+    (omega (arith, start .pre .0), record { ready = ready-wider (asked .ready) (asked .small); room = asked .room; memory = asked .memory })
+
+split-same-length-4 : (t : ℕ) → split-lts.Need-same-length-4 (split-calls t) (split-at t) split.Post
+split-same-length-4 t c = search needs
+
+split-returns-4 : (t : ℕ) → split-lts.Need-returns-4 (split-calls t) (split-at t) split.Post
+split-returns-4 t c =
+    let asked = c .before .before .before .before .before .before .before .before .before .before .before .before .before .before .before .before .before .before .before .before .before .before .before .pre .1 in
+    (world-answer (ready-wider (asked .ready) (asked .small)) (top t (c .before .before .before .before .before .before .before .before .before .before .before .before .before .before .before .before .before)) (rw (c .before .before .before .before .if2 .left) at (c .before .before .before .before .before .before .before .case-holds .ensures .0)) (c .before .before .case-holds2 .result) (c .before .before .case-holds2 .ensures .0), c .before .before .case-holds2 .ensures .1)
+
+next-empty-requires : (t : ℕ) → next-lts.Need-empty-requires (next-calls t) (next-at t) next.Post
+next-empty-requires t c κs = search needs
+
+world-force-requires : (t : ℕ) → world-lts.Need-force-requires (world-calls t) (world-at t) world.Post
+world-force-requires t c κs = c .before .before .pre .1 .ready
+
+world-enum-known-v : (t : ℕ) → world-lts.Need-enum-known-v (world-calls t) (world-at t) world.Post
+world-enum-known-v t c = search needs
+
+-- what follows of what is wanted
+forced : (t : ℕ) (c : world-lts.After-v (world-calls t) (world-at t) world.Post) → Forced (wideAt (c .before .before .before .before .before .args .entries .now)) (length (c .before .before .before .before .before .args .entries .now)) (c .before .before .before .before .before .args .w) (c .before .before .before .before .before .args .bound) (c .before .before .before .before .before .args .depth) (c .v .given .0 .0)
+forced t c = rw (c .v .given .1) at (c .before .before .force .ensures)
+
+world-split-requires : (t : ℕ) → world-lts.Need-split-requires (world-calls t) (world-at t) world.Post
+world-split-requires t c κs =
+    let start = (c .before .before .before .before .before .before .before) in
+    let asked = start .pre .1 in
+    (omega (arith, start .pre .0), record { ready = forced t (c .before .before) .ready; small = asked .small; room = asked .room; memory = asked .memory })
+
+world-enum-told : (t : ℕ) → world-lts.Need-enum-told (world-calls t) (world-at t) world.Post
+world-enum-told t c = search needs
+
+world-same-length : (t : ℕ) → world-lts.Need-same-length (world-calls t) (world-at t) world.Post
+world-same-length t c = search needs
+
+world-returns : (t : ℕ) → world-lts.Need-returns (world-calls t) (world-at t) world.Post
+world-returns t c = (forced-answer (forced t (c .before .before .before .before .before)) (c .before .before .split .result) (c .before .before .split .ensures .0), c .before .before .split .ensures .1)
+
+world-returns-2 : (t : ℕ) → world-lts.Need-returns-2 (world-calls t) (world-at t) world.Post
+world-returns-2 t c = (λ sat. (rw (c .enum-told .given .1) at (c .before .before .force .ensures)) (sat .structure) (sat .world) (sat .meets), c .before .before .before .before .before .pre .1 .memory)
+
+abbrev grown-Inv-loop : grown-lts.InvT-loop
+grown-Inv-loop entries q depth level work₀ set₀ rest₀ work set rest =
+    Within (member set) (asking (problemOf entries q)) × Within (member rest) (asking (problemOf entries q)) × FitIfAny (problemOf entries q) set × (length work ≡ length work₀) × (take level work ≡ take level work₀) × Remembers (wideAt entries) depth level work
+
+abbrev grown-μ-loop : grown-lts.MeasureT-loop
+grown-μ-loop entries q depth level work₀ set₀ rest₀ work set rest = count (member rest) 64
+
+grown-loop-holds : (t : ℕ) → grown-lts.Need-loop-holds (grown-calls t) (grown-at t) grown.Post grown-Inv-loop grown-μ-loop
+grown-loop-holds t c =
+    let a = c .before .before .args in
+    let asked = c .before .before .pre .1 in
+    (λ i h. asked .promising .within i (either-left (member (a .low)) (member (a .free)) i h), λ i h. asked .promising .within i (either-right (member (a .low)) (member (a .free)) i h), asked .fit, refl, refl, asked .memory)
+
+grown-highest-requires : (t : ℕ) → grown-lts.Need-highest-requires (grown-calls t) (grown-at t) grown.Post grown-Inv-loop grown-μ-loop
+grown-highest-requires t c κs = search needs
+
+grown-enum-known-i : (t : ℕ) → grown-lts.Need-enum-known-i (grown-calls t) (grown-at t) grown.Post grown-Inv-loop grown-μ-loop
+grown-enum-known-i t c = search needs
+
+grown-enum-told : (t : ℕ) → grown-lts.Need-enum-told (grown-calls t) (grown-at t) grown.Post grown-Inv-loop grown-μ-loop
+grown-enum-told t c = search needs
+
+grown-same-length : (t : ℕ) → grown-lts.Need-same-length (grown-calls t) (grown-at t) grown.Post grown-Inv-loop grown-μ-loop
+grown-same-length t c = c .before .before .before .loop .inv .3
+
+grown-returns : (t : ℕ) → grown-lts.Need-returns (grown-calls t) (grown-at t) grown.Post grown-Inv-loop grown-μ-loop
+grown-returns t c = let inv = c .before .before .before .loop .inv in record { promising = promising-of (c .before .before .before .before .before .before .pre .1 .promising) (inv .0); fit = inv .2; same = inv .4; memory = inv .5 }
+
+grown-without-requires : (t : ℕ) → grown-lts.Need-without-requires (grown-calls t) (grown-at t) grown.Post grown-Inv-loop grown-μ-loop
+grown-without-requires t c κs = search needs
+
+-- the member that is tried next
+next-in : (t : ℕ) (c : grown-lts.After-i (grown-calls t) (grown-at t) grown.Post grown-Inv-loop grown-μ-loop) → member (c .before .before .before .loop .rest) (c .i .given .0 .0) ≡ true
+next-in t c = (rw (c .i .given .1) at (c .before .before .highest .ensures)) .here
+
+next-small : (t : ℕ) (c : grown-lts.After-i (grown-calls t) (grown-at t) grown.Post grown-Inv-loop grown-μ-loop) → c .i .given .0 .0 < 64
+next-small t c =
+    let a = c .before .before .before .before .before .before .args in
+    let promising = c .before .before .before .before .before .before .pre .1 .promising in
+    let P = problemOf (a .entries .now) (a .q) in
+    omega (arith, promise-below P (asking P) (a .depth - 1) (promising-of promising (λ i h. h)) (c .i .given .0 .0) (c .before .before .before .loop .inv .1 _ (next-in t c)), promising .few)
+
+grown-with-requires : (t : ℕ) → grown-lts.Need-with-requires (grown-calls t) (grown-at t) grown.Post grown-Inv-loop grown-μ-loop
+grown-with-requires t c κs = next-small t (c .before .before)
+
+-- with it
+more-within : (t : ℕ) (c : grown-lts.After-with (grown-calls t) (grown-at t) grown.Post grown-Inv-loop grown-μ-loop) → Within (member (c .with .result)) (asking (problemOf (c .before .before .before .before .before .before .before .before .before .args .entries .now) (c .before .before .before .before .before .before .before .before .before .args .q)))
+more-within t c = rw (c .with .ensures) (added-within (member (c .before .before .before .before .before .before .loop .set)) (c .before .before .before .i .given .0 .0) (c .before .before .before .before .before .before .loop .inv .1 _ (next-in t (c .before .before .before))) (c .before .before .before .before .before .before .loop .inv .0))
+
+grown-keeps-requires : (t : ℕ) → grown-lts.Need-keeps-requires (grown-calls t) (grown-at t) grown.Post grown-Inv-loop grown-μ-loop
+grown-keeps-requires t c κs =
+    let start = (c .before .before .before .before .before .before .before .before .before .before) in
+    let asked = start .pre .1 in
+    let inv = c .before .before .before .before .before .before .before .loop .inv in
+    (omega (arith, start .pre .0), record { promising = promising-of (asked .promising) (more-within t (c .before)); deep = asked .deep; room = room-kept (inv .3) (asked .room); memory = inv .5 })
+
+grown-loop-less : (t : ℕ) → grown-lts.Need-loop-less (grown-calls t) (grown-at t) grown.Post grown-Inv-loop grown-μ-loop
+grown-loop-less t c = rw (c .before .before .before .before .before .before .without .ensures) (count-removed (member (c .before .before .before .before .before .before .before .before .before .before .before .loop .rest)) 64 (next-in t (c .before .before .before .before .before .before .before .before)) (next-small t (c .before .before .before .before .before .before .before .before)))
+
+grown-loop-again : (t : ℕ) → grown-lts.Need-loop-again (grown-calls t) (grown-at t) grown.Post grown-Inv-loop grown-μ-loop
+grown-loop-again t c =
+    let inv = c .before .before .before .before .before .before .before .before .before .before .before .loop .inv in (
+      more-within t (c .before .before .before .before .before),
+      rw (c .before .before .before .before .before .before .without .ensures) (λ j h. inv .1 j (removed-within (member (c .before .before .before .before .before .before .before .before .before .before .before .loop .rest)) (c .before .before .before .before .before .before .before .before .i .given .0 .0) j h)),
+      inr (rw (c .if1 .taken) at (c .before .before .before .keeps .ensures .answers)),
+      c .before .before .before .keeps .kept .1 .1 .1 .1 .1 .0 ∙ inv .3,
+      c .before .before .before .keeps .ensures .same ∙ inv .4,
+      c .before .before .before .keeps .ensures .memory,
+    )
+
+grown-loop-less-2 : (t : ℕ) → grown-lts.Need-loop-less-2 (grown-calls t) (grown-at t) grown.Post grown-Inv-loop grown-μ-loop
+grown-loop-less-2 t c = rw (c .before .before .before .before .before .before .without .ensures) (count-removed (member (c .before .before .before .before .before .before .before .before .before .before .before .loop .rest)) 64 (next-in t (c .before .before .before .before .before .before .before .before)) (next-small t (c .before .before .before .before .before .before .before .before)))
+
+grown-loop-again-2 : (t : ℕ) → grown-lts.Need-loop-again-2 (grown-calls t) (grown-at t) grown.Post grown-Inv-loop grown-μ-loop
+grown-loop-again-2 t c =
+    let inv = c .before .before .before .before .before .before .before .before .before .before .before .loop .inv in (
+      inv .0,
+      rw (c .before .before .before .before .before .before .without .ensures) (λ j h. inv .1 j (removed-within (member (c .before .before .before .before .before .before .before .before .before .before .before .loop .rest)) (c .before .before .before .before .before .before .before .before .i .given .0 .0) j h)),
+      inv .2,
+      c .before .before .before .keeps .kept .1 .1 .1 .1 .1 .0 ∙ inv .3,
+      c .before .before .before .keeps .ensures .same ∙ inv .4,
+      c .before .before .before .keeps .ensures .memory,
+    )
+
+abbrev greedy-Inv-loop : greedy-lts.InvT-loop
+greedy-Inv-loop entries q all depth level work₀ slots₀ work slots =
+    Taken (problemOf entries q) slots work × (length work ≡ length work₀) × Remembers (wideAt entries) depth level work
+
+abbrev greedy-μ-loop : greedy-lts.MeasureT-loop
+greedy-μ-loop entries q all depth level work₀ slots₀ work slots = gradeSum (wideAt entries) (length entries) - slots
+
+greedy-loop-holds : (t : ℕ) → greedy-lts.Need-loop-holds (greedy-calls t) (greedy-at t) greedy.Post greedy-Inv-loop greedy-μ-loop
+greedy-loop-holds t c = let a = c .before .before .args in (taken-none (problemOf (a .entries .now) (a .q)) (a .work .now), refl, c .before .before .pre .1 .memory)
+
+-- the slots are few
+greedy-few : (t : ℕ) (c : greedy-lts.At-loop (greedy-calls t) (greedy-at t) greedy.Post greedy-Inv-loop greedy-μ-loop) → Few (c .loop .work) (c .loop .slots)
+greedy-few t c =
+    let a = c .before .before .before .args in
+    let promising = c .before .before .before .pre .1 .promising in
+    serving-few (a .entries .now) (a .q) (c .loop .work) (c .loop .slots) (record { few = promising .few; below = promising .below }) (c .loop .inv .0 .serving) (c .loop .inv .0 .copies)
+
+greedy-met-requires : (t : ℕ) → greedy-lts.Need-met-requires (greedy-calls t) (greedy-at t) greedy.Post greedy-Inv-loop greedy-μ-loop
+greedy-met-requires t c κs = (greedy-few t (c .before), c .before .before .before .before .pre .1 .all-asking)
+
+greedy-same-length : (t : ℕ) → greedy-lts.Need-same-length (greedy-calls t) (greedy-at t) greedy.Post greedy-Inv-loop greedy-μ-loop
+greedy-same-length t c = c .before .before .before .loop .inv .1
+
+greedy-returns : (t : ℕ) → greedy-lts.Need-returns (greedy-calls t) (greedy-at t) greedy.Post greedy-Inv-loop greedy-μ-loop
+greedy-returns t c =
+    let a = c .before .before .before .before .before .before .args in
+    let inv = c .before .before .before .loop .inv in
+    record { answers = λ e. found (problemOf (a .entries .now) (a .q)) (c .before .before .before .before .before .before .pre .1 .promising .below) (inv .0 .fit) (rw (c .if1 .taken) at (c .before .met .ensures)) (inv .0 .kept); memory = inv .2 }
+
+greedy-unmet-requires : (t : ℕ) → greedy-lts.Need-unmet-requires (greedy-calls t) (greedy-at t) greedy.Post greedy-Inv-loop greedy-μ-loop
+greedy-unmet-requires t c κs = (c .before .before .before .before .before .before .before .pre .1 .promising .few, greedy-few t (c .before .before .before .before))
+
+greedy-intersection-requires : (t : ℕ) → greedy-lts.Need-intersection-requires (greedy-calls t) (greedy-at t) greedy.Post greedy-Inv-loop greedy-μ-loop
+greedy-intersection-requires t c κs = search needs
+
+greedy-used-up-requires : (t : ℕ) → greedy-lts.Need-used-up-requires (greedy-calls t) (greedy-at t) greedy.Post greedy-Inv-loop greedy-μ-loop
+greedy-used-up-requires t c κs = (c .before .before .before .before .before .before .before .before .before .before .pre .1 .promising .few, greedy-few t (c .before .before .before .before .before .before .before), c .before .before .before .before .before .before .before .loop .inv .0 .kept)
+
+greedy-intersection-requires-2 : (t : ℕ) → greedy-lts.Need-intersection-requires-2 (greedy-calls t) (greedy-at t) greedy.Post greedy-Inv-loop greedy-μ-loop
+greedy-intersection-requires-2 t c κs = search needs
+
+greedy-empty-requires : (t : ℕ) → greedy-lts.Need-empty-requires (greedy-calls t) (greedy-at t) greedy.Post greedy-Inv-loop greedy-μ-loop
+greedy-empty-requires t c κs = search needs
+
+greedy-highest-of-requires : (t : ℕ) → greedy-lts.Need-highest-of-requires (greedy-calls t) (greedy-at t) greedy.Post greedy-Inv-loop greedy-μ-loop
+greedy-highest-of-requires t c κs = search needs
+
+-- all sets that are tried are of needs and limits
+all-asks : (t : ℕ) (c : greedy-lts.At-loop (greedy-calls t) (greedy-at t) greedy.Post greedy-Inv-loop greedy-μ-loop) → Within (member (c .before .before .before .args .all)) (asking (problemOf (c .before .before .before .args .entries .now) (c .before .before .before .args .q)))
+all-asks t c i h = rw (c .before .before .before .pre .1 .all-asking) at h
+
+open-asks : (t : ℕ) (c : greedy-lts.After-intersection2 (greedy-calls t) (greedy-at t) greedy.Post greedy-Inv-loop greedy-μ-loop) → Within (member (c .before .before .before .intersection .result)) (asking (problemOf (c .before .before .before .before .before .before .before .before .before .before .before .before .args .entries .now) (c .before .before .before .before .before .before .before .before .before .before .before .before .args .q)))
+open-asks t c i h = all-asks t (c .before .before .before .before .before .before .before .before .before) i (both-parts true (member (c .before .before .before .before .unmet .result) i) _ (rw (c .before .before .before .intersection .ensures) at h) .1)
+
+full-asks : (t : ℕ) (c : greedy-lts.After-intersection2 (greedy-calls t) (greedy-at t) greedy.Post greedy-Inv-loop greedy-μ-loop) → Within (member (c .intersection2 .result)) (asking (problemOf (c .before .before .before .before .before .before .before .before .before .before .before .before .args .entries .now) (c .before .before .before .before .before .before .before .before .before .before .before .before .args .q)))
+full-asks t c i h = all-asks t (c .before .before .before .before .before .before .before .before .before) i (both-parts true (member (c .before .used-up .result) i) _ (rw (c .intersection2 .ensures) at h) .1)
+
+greedy-grown-requires : (t : ℕ) → greedy-lts.Need-grown-requires (greedy-calls t) (greedy-at t) greedy.Post greedy-Inv-loop greedy-μ-loop
+greedy-grown-requires t c κs =
+    let start = (c .before .before .before .before .before .before .before .before .before .before .before .before .before .before .before) in
+    let asked = start .pre .1 in
+    let inv = c .before .before .before .before .before .before .before .before .before .before .before .before .loop .inv in
+    let nothing-in : Within (member (c .before .before .empty .result)) (asking (problemOf (start .args .entries .now) (start .args .q))) = rw (c .before .before .empty .ensures) (λ i h. absurd (false≢true h)) in (
+      omega (arith, start .pre .0),
+      record {
+        promising = promising-of (asked .promising) (either-made (member (c .before .before .empty .result)) (member (c .before .highest-of .result)) nothing-in (λ i h. open-asks t (c .before .before .before) i (c .before .highest-of .ensures i h)));
+        fit = inl (c .before .before .empty .ensures);
+        deep = asked .deep;
+        room = room-kept (inv .1) (asked .room);
+        memory = inv .2;
+      },
+    )
+
+greedy-grown-requires-2 : (t : ℕ) → greedy-lts.Need-grown-requires-2 (greedy-calls t) (greedy-at t) greedy.Post greedy-Inv-loop greedy-μ-loop
+greedy-grown-requires-2 t c κs =
+    let start = (c .before .before .before .before .before .before .before .before .before .before .before .before .before .before .before .before .before .before .before) in
+    let asked = start .pre .1 in
+    let one = c .before .before .before .grown .ensures in (
+      omega (arith, start .pre .0),
+      record {
+        promising = promising-of (asked .promising) (either-made (member (c .before .before .before .grown .result)) (member (c .before .before .before .before .before .before .before .intersection2 .result)) (one .promising .within) (full-asks t (c .before .before .before .before .before .before .before)));
+        fit = one .fit;
+        deep = asked .deep;
+        room = room-kept (c .before .before .before .grown .kept .1 .1 .1 .1 .1 .1 .0 ∙ c .before .before .before .before .before .before .before .before .before .before .before .before .before .before .before .before .loop .inv .1) (asked .room);
+        memory = one .memory;
+      },
+    )
+
+greedy-grown-requires-3 : (t : ℕ) → greedy-lts.Need-grown-requires-3 (greedy-calls t) (greedy-at t) greedy.Post greedy-Inv-loop greedy-μ-loop
+greedy-grown-requires-3 t c κs =
+    let start = (c .before .before .before .before .before .before .before .before .before .before .before .before .before .before .before .before .before .before .before .before .before .before .before) in
+    let asked = start .pre .1 in
+    let safe = c .before .before .before .grown2 .ensures in (
+      omega (arith, start .pre .0),
+      record {
+        promising = promising-of (asked .promising) (either-made (member (c .before .before .before .grown2 .result)) (member (c .before .before .before .before .before .before .before .before .before .before .before .before .before .before .intersection .result)) (safe .promising .within) (open-asks t (c .before .before .before .before .before .before .before .before .before .before .before)));
+        fit = safe .fit;
+        deep = asked .deep;
+        room = room-kept (c .before .before .before .grown2 .kept .1 .1 .1 .1 .1 .1 .0 ∙ c .before .before .before .before .before .before .before .grown .kept .1 .1 .1 .1 .1 .1 .0 ∙ c .before .before .before .before .before .before .before .before .before .before .before .before .before .before .before .before .before .before .before .before .loop .inv .1) (asked .room);
+        memory = safe .memory;
+      },
+    )
+
+greedy-grown-requires-4 : (t : ℕ) → greedy-lts.Need-grown-requires-4 (greedy-calls t) (greedy-at t) greedy.Post greedy-Inv-loop greedy-μ-loop
+greedy-grown-requires-4 t c κs =
+    let start = (c .before .before .before .before .before .before .before .before .before .before .before .before .before .before .before .before .before .before .before .before .before .before .before .before .before .before .before) in
+    let asked = start .pre .1 in
+    let wide = c .before .before .before .grown3 .ensures in (
+      omega (arith, start .pre .0),
+      record {
+        promising = promising-of (asked .promising) (either-made (member (c .before .before .before .grown3 .result)) (member (start .args .all)) (wide .promising .within) (all-asks t (c .before .before .before .before .before .before .before .before .before .before .before .before .before .before .before .before .before .before .before .before .before .before .before .before)));
+        fit = wide .fit;
+        deep = asked .deep;
+        room = room-kept (c .before .before .before .grown3 .kept .1 .1 .1 .1 .1 .1 .0 ∙ c .before .before .before .before .before .before .before .grown2 .kept .1 .1 .1 .1 .1 .1 .0 ∙ c .before .before .before .before .before .before .before .before .before .before .before .grown .kept .1 .1 .1 .1 .1 .1 .0 ∙ c .before .before .before .before .before .before .before .before .before .before .before .before .before .before .before .before .before .before .before .before .before .before .before .before .loop .inv .1) (asked .room);
+        memory = wide .memory;
+      },
+    )
+
+-- the slots are the same after the set was grown
+still-taken : (t : ℕ) (c : greedy-lts.After-grown4 (greedy-calls t) (greedy-at t) greedy.Post greedy-Inv-loop greedy-μ-loop)
+    → Taken (problemOf (c .before .before .before .before .before .before .before .before .before .before .before .before .before .before .before .before .before .before .before .before .before .before .before .before .before .before .before .before .args .entries .now) (c .before .before .before .before .before .before .before .before .before .before .before .before .before .before .before .before .before .before .before .before .before .before .before .before .before .before .before .before .args .q)) (c .before .before .before .before .before .before .before .before .before .before .before .before .before .before .before .before .before .before .before .before .before .before .before .before .before .loop .slots) (c .grown4 .last .1 .1 .1 .1 .1 .1 .0)
+still-taken t c =
+    let a = c .before .before .before .before .before .before .before .before .before .before .before .before .before .before .before .before .before .before .before .before .before .before .before .before .before .before .before .before .args in
+    let P = problemOf (a .entries .now) (a .q) in
+    taken-kept P {level = a .level} (c .before .before .before .before .before .before .before .before .before .before .before .before .before .before .before .before .before .before .before .before .before .before .before .before .before .loop .work) (c .grown4 .last .1 .1 .1 .1 .1 .1 .0) (taken-below P (c .before .before .before .before .before .before .before .before .before .before .before .before .before .before .before .before .before .before .before .before .before .before .before .before .before .before .before .before .pre .1 .room) (c .before .before .before .before .before .before .before .before .before .before .before .before .before .before .before .before .before .before .before .before .before .before .before .before .before .loop .inv .0)) (c .grown4 .ensures .same ∙ c .before .before .before .before .grown3 .ensures .same ∙ c .before .before .before .before .before .before .before .before .grown2 .ensures .same ∙ c .before .before .before .before .before .before .before .before .before .before .before .before .grown .ensures .same) (c .before .before .before .before .before .before .before .before .before .before .before .before .before .before .before .before .before .before .before .before .before .before .before .before .before .loop .inv .0)
+
+grown-length : (t : ℕ) (c : greedy-lts.After-grown4 (greedy-calls t) (greedy-at t) greedy.Post greedy-Inv-loop greedy-μ-loop)
+    → length (c .grown4 .last .1 .1 .1 .1 .1 .1 .0) ≡ length (c .before .before .before .before .before .before .before .before .before .before .before .before .before .before .before .before .before .before .before .before .before .before .before .before .before .before .before .before .args .work .now)
+grown-length t c = c .grown4 .kept .1 .1 .1 .1 .1 .1 .0 ∙ c .before .before .before .before .grown3 .kept .1 .1 .1 .1 .1 .1 .0 ∙ c .before .before .before .before .before .before .before .before .grown2 .kept .1 .1 .1 .1 .1 .1 .0 ∙ c .before .before .before .before .before .before .before .before .before .before .before .before .grown .kept .1 .1 .1 .1 .1 .1 .0 ∙ c .before .before .before .before .before .before .before .before .before .before .before .before .before .before .before .before .before .before .before .before .before .before .before .before .before .loop .inv .1
+
+greedy-useful-requires : (t : ℕ) → greedy-lts.Need-useful-requires (greedy-calls t) (greedy-at t) greedy.Post greedy-Inv-loop greedy-μ-loop
+greedy-useful-requires t c κs =
+    let a = c .before .before .before .before .before .before .before .before .before .before .before .before .before .before .before .before .before .before .before .before .before .before .before .before .before .before .before .before .before .before .before .args in
+    let promising = c .before .before .before .before .before .before .before .before .before .before .before .before .before .before .before .before .before .before .before .before .before .before .before .before .before .before .before .before .before .before .before .pre .1 .promising in
+    let now = still-taken t (c .before .before .before) in
+    (serving-few (a .entries .now) (a .q) (c .before .before .before .grown4 .last .1 .1 .1 .1 .1 .1 .0) (c .before .before .before .before .before .before .before .before .before .before .before .before .before .before .before .before .before .before .before .before .before .before .before .before .before .before .before .before .loop .slots) (record { few = promising .few; below = promising .below }) (now .serving) (now .copies), now .kept)
+
+greedy-same-length-2 : (t : ℕ) → greedy-lts.Need-same-length-2 (greedy-calls t) (greedy-at t) greedy.Post greedy-Inv-loop greedy-μ-loop
+greedy-same-length-2 t c = grown-length t (c .before .before .before .before .before)
+
+greedy-returns-2 : (t : ℕ) → greedy-lts.Need-returns-2 (greedy-calls t) (greedy-at t) greedy.Post greedy-Inv-loop greedy-μ-loop
+greedy-returns-2 t c = record { answers = λ e. absurd (false≢true e); memory = c .before .before .before .before .before .grown4 .ensures .memory }
+
+-- copies of the set are of use, and there is room for the slot
+some-use : (t : ℕ) (c : greedy-lts.Else2 (greedy-calls t) (greedy-at t) greedy.Post greedy-Inv-loop greedy-μ-loop) → 0 < c .before .useful .result
+some-use t c = omega (arith, c .if2 .left)
+
+slot-room : (t : ℕ) (c : greedy-lts.Else2 (greedy-calls t) (greedy-at t) greedy.Post greedy-Inv-loop greedy-μ-loop) → suc (c .before .before .before .before .before .before .before .before .before .before .before .before .before .before .before .before .before .before .before .before .before .before .before .before .before .before .before .before .before .before .loop .slots) ≤ gradeSum (wideAt (c .before .before .before .before .before .before .before .before .before .before .before .before .before .before .before .before .before .before .before .before .before .before .before .before .before .before .before .before .before .before .before .before .before .args .entries .now)) (length (c .before .before .before .before .before .before .before .before .before .before .before .before .before .before .before .before .before .before .before .before .before .before .before .before .before .before .before .before .before .before .before .before .before .args .entries .now))
+slot-room t c = taken-room (problemOf (c .before .before .before .before .before .before .before .before .before .before .before .before .before .before .before .before .before .before .before .before .before .before .before .before .before .before .before .before .before .before .before .before .before .args .entries .now) (c .before .before .before .before .before .before .before .before .before .before .before .before .before .before .before .before .before .before .before .before .before .before .before .before .before .before .before .before .before .before .before .before .before .args .q)) (still-taken t (c .before .before .before .before .before)) (c .before .useful .ensures) (some-use t c)
+
+greedy-put-slot-requires : (t : ℕ) → greedy-lts.Need-put-slot-requires (greedy-calls t) (greedy-at t) greedy.Post greedy-Inv-loop greedy-μ-loop
+greedy-put-slot-requires t c κs = omega (arith, slot-room t (c .before), c .before .before .before .before .before .before .before .before .before .before .before .before .before .before .before .before .before .before .before .before .before .before .before .before .before .before .before .before .before .before .before .before .before .before .pre .1 .room .stack, room-level (c .before .before .before .before .before .before .before .before .before .before .before .before .before .before .before .before .before .before .before .before .before .before .before .before .before .before .before .before .before .before .before .before .before .before .pre .1 .room), grown-length t (c .before .before .before .before .before .before))
+
+greedy-add-slots : (t : ℕ) → greedy-lts.Need-add-slots (greedy-calls t) (greedy-at t) greedy.Post greedy-Inv-loop greedy-μ-loop
+greedy-add-slots t c = record { fits = omega (arith, slot-room t (c .before .before .before .before), c .before .before .before .before .before .before .before .before .before .before .before .before .before .before .before .before .before .before .before .before .before .before .before .before .before .before .before .before .before .before .before .before .before .before .before .before .before .pre .1 .room .stack, room-level (c .before .before .before .before .before .before .before .before .before .before .before .before .before .before .before .before .before .before .before .before .before .before .before .before .before .before .before .before .before .before .before .before .before .before .before .before .before .pre .1 .room), c .before .before .before .before .before .before .before .before .before .before .before .before .before .before .before .before .before .before .before .before .before .before .before .before .before .before .before .before .before .before .before .before .before .before .before .before .before .good .1 .1 .1 .1 .1 .0) }
+
+greedy-loop-less : (t : ℕ) → greedy-lts.Need-loop-less (greedy-calls t) (greedy-at t) greedy.Post greedy-Inv-loop greedy-μ-loop
+greedy-loop-less t c = omega (arith, slot-room t (c .before .before .before .before))
+
+greedy-loop-again : (t : ℕ) → greedy-lts.Need-loop-again (greedy-calls t) (greedy-at t) greedy.Post greedy-Inv-loop greedy-μ-loop
+greedy-loop-again t c =
+    let a = c .before .before .before .before .before .before .before .before .before .before .before .before .before .before .before .before .before .before .before .before .before .before .before .before .before .before .before .before .before .before .before .before .before .before .before .before .before .args in
+    let P = problemOf (a .entries .now) (a .q) in
+    let set = c .before .before .before .before .before .before .before .before .before .grown4 .result in
+    let fit = fit-useful P set (c .before .before .before .before .before .before .before .before .before .grown4 .ensures .fit) (c .before .before .before .before .before .useful .ensures) (some-use t (c .before .before .before .before)) in (
+      rw add-one (taken-more P (still-taken t (c .before .before .before .before .before .before .before .before .before)) (c .before .before .before .before .before .useful .ensures) (some-use t (c .before .before .before .before)) fit (c .before .before .put-slot .ensures)),
+      c .before .before .put-slot .ensures .same-length ∙ grown-length t (c .before .before .before .before .before .before .before .before .before),
+      memory-put P (a .depth) (a .level) (c .before .before .before .before .before .before .before .before .before .grown4 .last .1 .1 .1 .1 .1 .1 .0) (c .before .before .put-slot .last .0) (omega (arith, slot-room t (c .before .before .before .before), c .before .before .before .before .before .before .before .before .before .before .before .before .before .before .before .before .before .before .before .before .before .before .before .before .before .before .before .before .before .before .before .before .before .before .before .before .before .pre .1 .room .stack)) (c .before .before .put-slot .ensures) (c .before .before .before .before .before .before .before .before .before .grown4 .ensures .memory),
+    )
+
+solve-greedy-requires : (t : ℕ) → solve-lts.Need-greedy-requires (solve-calls t) (solve-at t) solve.Post
+solve-greedy-requires t c κs =
+    let start = (c .before .before .before .before .before .before .before .before .before .before .before .before .before) in
+    let asked = start .pre .1 in
+    (omega (arith, start .pre .0), record { promising = asked .promising; deep = asked .deep; all-asking = asked .all-asking; room = room-kept (c .before .before .before .before .opposed .kept .1 .1 .1 .1 .1 .0 ∙ c .before .before .before .before .before .before .before .before .before .keeps .kept .1 .1 .1 .1 .1 .0) (asked .room); memory = c .before .before .before .before .opposed .ensures .memory })
+
+solve-same-length-5 : (t : ℕ) → solve-lts.Need-same-length-5 (solve-calls t) (solve-at t) solve.Post
+solve-same-length-5 t c = c .before .before .before .before .by-list .kept .1 .1 .1 .1 .1 .0 ∙ c .before .before .before .before .before .before .before .before .before .greedy .kept .1 .1 .1 .1 .1 .0 ∙ c .before .before .before .before .before .before .before .before .before .before .before .before .before .before .opposed .kept .1 .1 .1 .1 .1 .0 ∙ c .before .before .before .before .before .before .before .before .before .before .before .before .before .before .before .before .before .before .before .keeps .kept .1 .1 .1 .1 .1 .0
+
+solve-returns-5 : (t : ℕ) → solve-lts.Need-returns-5 (solve-calls t) (solve-at t) solve.Post
+solve-returns-5 t c = rw (c .enum-told2 .given .1) at (c .before .before .before .before .by-list .ensures)
+
+by-list-closed-requires : (t : ℕ) → by-list-lts.Need-closed-requires (by-list-calls t) (by-list-at t) by-list.Post
+by-list-closed-requires t c κs = record { few = c .before .before .pre .1 .promising .few; below = c .before .before .pre .1 .promising .below }
+
+by-list-intersection-requires : (t : ℕ) → by-list-lts.Need-intersection-requires (by-list-calls t) (by-list-at t) by-list.Post
+by-list-intersection-requires t c κs = search needs
+
+by-list-minus-requires : (t : ℕ) → by-list-lts.Need-minus-requires (by-list-calls t) (by-list-at t) by-list.Post
+by-list-minus-requires t c κs = search needs
+
+by-list-largest-requires : (t : ℕ) → by-list-lts.Need-largest-requires (by-list-calls t) (by-list-at t) by-list.Post
+by-list-largest-requires t c κs =
+    let start = (c .before .before .before .before .before .before) in
+    let a = start .args in
+    let asked = start .pre .1 in (
+      omega (arith, start .pre .0, count-le (member (c .before .minus .result)) 64),
+      record {
+        promising = promising-fewer (asked .promising) (parts-all t (c .before));
+        deep = asked .deep;
+        room = asked .room;
+        memory = asked .memory;
+        lists = lists-none (problemOf (a .entries .now) (a .q)) (a .level) (a .work .now);
+      },
+    )
+
+by-list-enum-known-k : (t : ℕ) → by-list-lts.Need-enum-known-k (by-list-calls t) (by-list-at t) by-list.Post
+by-list-enum-known-k t c = search needs
+
+by-list-selected-requires : (t : ℕ) → by-list-lts.Need-selected-requires (by-list-calls t) (by-list-at t) by-list.Post
+by-list-selected-requires t c κs =
+    let a = c .before .before .before .before .before .before .before .before .before .before .before .before .before .args in
+    let asked = c .before .before .before .before .before .before .before .before .before .before .before .before .before .pre .1 in
+    let listed = rw (c .before .before .k .given .1) at (c .before .before .before .before .before .before .largest .ensures) in
+    record {
+      problem = record { few = asked .promising .few; below = asked .promising .below };
+      all-asking = asked .all-asking;
+      deep = asked .deep;
+      room = room-kept (c .before .before .before .before .before .before .largest .kept .1 .1 .1 .1 .1 .1 .1 .0) (asked .room);
+      memory = listed .memory;
+      some = listed .lists .some;
+      covers = listing-covers (problemOf (a .entries .now) (a .q)) (member (c .before .before .before .before .before .before .before .before .before .intersection .result)) (member (c .before .before .before .before .before .before .before .before .minus .result)) (a .work .now) (c .before .before .before .before .before .before .largest .last .1 .1 .1 .1 .1 .1 .1 .0) (base-closed t (c .before .before .before .before .before .before .before .before)) (all-parts t (c .before .before .before .before .before .before .before .before)) listed;
+    }
+
+by-list-enum-told : (t : ℕ) → by-list-lts.Need-enum-told (by-list-calls t) (by-list-at t) by-list.Post
+by-list-enum-told t c = search needs
+
+by-list-same-length : (t : ℕ) → by-list-lts.Need-same-length (by-list-calls t) (by-list-at t) by-list.Post
+by-list-same-length t c = c .before .before .before .selected .kept .1 .1 .1 .1 .1 .1 .0 ∙ c .before .before .before .before .before .before .before .before .before .before .largest .kept .1 .1 .1 .1 .1 .1 .1 .0
+
+by-list-returns : (t : ℕ) → by-list-lts.Need-returns (by-list-calls t) (by-list-at t) by-list.Post
+by-list-returns t c = (rw (c .if1 .taken) at (c .before .before .before .selected .ensures .0), c .before .before .before .selected .ensures .1)
+
+by-list-same-length-2 : (t : ℕ) → by-list-lts.Need-same-length-2 (by-list-calls t) (by-list-at t) by-list.Post
+by-list-same-length-2 t c = c .before .before .before .selected .kept .1 .1 .1 .1 .1 .1 .0 ∙ c .before .before .before .before .before .before .before .before .before .before .largest .kept .1 .1 .1 .1 .1 .1 .1 .0
+
+by-list-returns-2 : (t : ℕ) → by-list-lts.Need-returns-2 (by-list-calls t) (by-list-at t) by-list.Post
+by-list-returns-2 t c = (rw (c .if1 .left) at (c .before .before .before .selected .ensures .0), c .before .before .before .selected .ensures .1)
+
+by-list-same-length-3 : (t : ℕ) → by-list-lts.Need-same-length-3 (by-list-calls t) (by-list-at t) by-list.Post
+by-list-same-length-3 t c = c .before .before .before .before .largest .kept .1 .1 .1 .1 .1 .1 .1 .0
+
+by-list-returns-3 : (t : ℕ) → by-list-lts.Need-returns-3 (by-list-calls t) (by-list-at t) by-list.Post
+by-list-returns-3 t c = (tt, rw (c .enum-told .given .1) at (c .before .before .before .before .largest .ensures))
+
+past-list-weighed-requires : (t : ℕ) → past-list-lts.Need-weighed-requires (past-list-calls t) (past-list-at t) past-list.Post
+past-list-weighed-requires t c κs =
+    let asked = c .before .before .before .pre .1 in
+    record { problem = record { few = asked .promising .few; below = asked .promising .below }; room = asked .room; memory = asked .memory }
+
+past-list-narrowed-requires : (t : ℕ) → past-list-lts.Need-narrowed-requires (past-list-calls t) (past-list-at t) past-list.Post
+past-list-narrowed-requires t c κs = search needs
+
+-- the part of the problem
+part-fewer : (t : ℕ) (c : past-list-lts.After-narrowed (past-list-calls t) (past-list-at t) past-list.Post) → (b : Bool)
+    → Within (wanted (member (c .narrowed .result .yes)) (member (c .narrowed .result .no)) b) (wanted (member (c .before .before .before .before .before .before .before .args .q .yes)) (member (c .before .before .before .before .before .before .before .args .q .no)) b)
+part-fewer t c = narrowed-fewer (c .narrowed .ensures)
+
+past-list-asking-requires : (t : ℕ) → past-list-lts.Need-asking-requires (past-list-calls t) (past-list-at t) past-list.Post
+past-list-asking-requires t c κs =
+    let promising = c .before .before .before .before .before .before .before .pre .1 .promising in
+    record { few = promising .few; below = λ b i h. promising .below b i (part-fewer t c b i h) }
+
+past-list-by-list-requires : (t : ℕ) → past-list-lts.Need-by-list-requires (past-list-calls t) (past-list-at t) past-list.Post
+past-list-by-list-requires t c κs =
+    let start = (c .before .before .before .before .before .before .before .before .before) in
+    let asked = start .pre .1 in (
+      omega (arith, start .pre .0),
+      record {
+        promising = record {
+          formed = asked .promising .formed;
+          few = asked .promising .few;
+          below = λ b i h. asked .promising .below b i (part-fewer t (c .before .before) b i h);
+          within = λ i h. h;
+          shallow = λ b i h. asked .promising .shallow b i (part-fewer t (c .before .before) b i h);
+        };
+        deep = asked .deep;
+        all-asking = c .before .asking .ensures;
+        room = room-kept (c .before .before .before .before .before .weighed .kept .1 .1 .1 .1 .0) (asked .room);
+        memory = c .before .before .before .before .before .weighed .ensures;
+      },
+    )
+
+past-list-enum-told : (t : ℕ) → past-list-lts.Need-enum-told (past-list-calls t) (past-list-at t) past-list.Post
+past-list-enum-told t c = search needs
+
+past-list-same-length : (t : ℕ) → past-list-lts.Need-same-length (past-list-calls t) (past-list-at t) past-list.Post
+past-list-same-length t c = c .before .before .before .before .by-list .kept .1 .1 .1 .1 .1 .0 ∙ c .before .before .before .before .before .before .before .before .before .before .weighed .kept .1 .1 .1 .1 .0
+
+past-list-returns : (t : ℕ) → past-list-lts.Need-returns (past-list-calls t) (past-list-at t) past-list.Post
+past-list-returns t c =
+    let a = c .before .before .before .before .before .before .before .before .before .before .before .before .before .before .args in (
+      λ s. (rw (c .enum-told .given .1) at (c .before .before .before .before .by-list .ensures .0)) (narrowed-solvable (a .entries .now) (c .before .before .before .before .before .before .before .narrowed .ensures) s),
+      c .before .before .before .before .by-list .ensures .1,
+    )
+
+past-list-by-asking-requires : (t : ℕ) → past-list-lts.Need-by-asking-requires (past-list-calls t) (past-list-at t) past-list.Post
+past-list-by-asking-requires t c κs =
+    let start = (c .before .before .before .before .before .before .before .before .before .before .before .before .before .before) in
+    let asked = start .pre .1 in
+    (omega (arith, start .pre .0), record { promising = asked .promising; deep = asked .deep; all-asking = asked .all-asking; room = room-kept (c .before .before .before .before .by-list .kept .1 .1 .1 .1 .1 .0 ∙ c .before .before .before .before .before .before .before .before .before .before .weighed .kept .1 .1 .1 .1 .0) (asked .room); memory = c .before .before .before .before .by-list .ensures .1 })
+
+past-list-same-length-2 : (t : ℕ) → past-list-lts.Need-same-length-2 (past-list-calls t) (past-list-at t) past-list.Post
+past-list-same-length-2 t c = c .before .before .by-asking .kept .1 .1 .1 .1 .1 .0 ∙ c .before .before .before .before .before .before .before .by-list .kept .1 .1 .1 .1 .1 .0 ∙ c .before .before .before .before .before .before .before .before .before .before .before .before .before .weighed .kept .1 .1 .1 .1 .0
+
+past-list-returns-2 : (t : ℕ) → past-list-lts.Need-returns-2 (past-list-calls t) (past-list-at t) past-list.Post
+past-list-returns-2 t c = c .before .before .by-asking .ensures
+
+solve-by-list-requires : (t : ℕ) → solve-lts.Need-by-list-requires (solve-calls t) (solve-at t) solve.Post
+solve-by-list-requires t c κs =
+    let start = (c .before .before .before .before .before .before .before .before .before .before .before .before .before .before .before .before .before .before) in
+    let asked = start .pre .1 in
+    (omega (arith, start .pre .0), record { promising = asked .promising; deep = asked .deep; all-asking = asked .all-asking; room = room-kept (c .before .before .before .before .greedy .kept .1 .1 .1 .1 .1 .0 ∙ c .before .before .before .before .before .before .before .before .before .opposed .kept .1 .1 .1 .1 .1 .0 ∙ c .before .before .before .before .before .before .before .before .before .before .before .before .before .before .keeps .kept .1 .1 .1 .1 .1 .0) (asked .room); memory = c .before .before .before .before .greedy .ensures .memory })
+
+solve-enum-told-2 : (t : ℕ) → solve-lts.Need-enum-told-2 (solve-calls t) (solve-at t) solve.Post
+solve-enum-told-2 t c = search needs
+
+solve-enum-told-3 : (t : ℕ) → solve-lts.Need-enum-told-3 (solve-calls t) (solve-at t) solve.Post
+solve-enum-told-3 t c = search needs
+
+solve-past-list-requires : (t : ℕ) → solve-lts.Need-past-list-requires (solve-calls t) (solve-at t) solve.Post
+solve-past-list-requires t c κs =
+    let start = (c .before .before .before .before .before .before .before .before .before .before .before .before .before .before .before .before .before .before .before .before .before .before .before .before) in
+    let asked = start .pre .1 in
+    (omega (arith, start .pre .0), record { promising = asked .promising; deep = asked .deep; all-asking = asked .all-asking; room = room-kept (c .before .before .before .before .before .by-list .kept .1 .1 .1 .1 .1 .0 ∙ c .before .before .before .before .before .before .before .before .before .before .greedy .kept .1 .1 .1 .1 .1 .0 ∙ c .before .before .before .before .before .before .before .before .before .before .before .before .before .before .before .opposed .kept .1 .1 .1 .1 .1 .0 ∙ c .before .before .before .before .before .before .before .before .before .before .before .before .before .before .before .before .before .before .before .before .keeps .kept .1 .1 .1 .1 .1 .0) (asked .room); memory = c .before .before .before .before .before .by-list .ensures .1 })
+
+solve-same-length-6 : (t : ℕ) → solve-lts.Need-same-length-6 (solve-calls t) (solve-at t) solve.Post
+solve-same-length-6 t c = c .before .before .past-list .kept .1 .1 .1 .1 .1 .0 ∙ c .before .before .before .before .before .before .before .before .by-list .kept .1 .1 .1 .1 .1 .0 ∙ c .before .before .before .before .before .before .before .before .before .before .before .before .before .greedy .kept .1 .1 .1 .1 .1 .0 ∙ c .before .before .before .before .before .before .before .before .before .before .before .before .before .before .before .before .before .before .opposed .kept .1 .1 .1 .1 .1 .0 ∙ c .before .before .before .before .before .before .before .before .before .before .before .before .before .before .before .before .before .before .before .before .before .before .before .keeps .kept .1 .1 .1 .1 .1 .0
+
+solve-returns-6 : (t : ℕ) → solve-lts.Need-returns-6 (solve-calls t) (solve-at t) solve.Post
+solve-returns-6 t c = c .before .before .past-list .ensures
+
+pub +branches+by-asking+by-list+case-holds+core-of+greedy+grown+keeps+largest+next+opposed+past-list+refuted+relations+solve+split+world-spec :
+    {M : Type 1} → statement M
++branches+by-asking+by-list+case-holds+core-of+greedy+grown+keeps+largest+next+opposed+past-list+refuted+relations+solve+split+world-spec =
+    close
+    μ-branches
+    μ-by-asking
+    μ-by-list
+    μ-case-holds
+    μ-core-of
+    μ-greedy
+    μ-grown
+    μ-keeps
+    μ-largest
+    μ-next
+    μ-opposed
+    μ-past-list
+    μ-refuted
+    μ-relations
+    μ-solve
+    μ-split
+    μ-world
+    (λ t. branches-lts.spec (branches-calls t)
+    (branches-at t)
+    branches.Post
+    (branches-highest-requires t)
+    (branches-enum-known-i t)
+    (branches-enum-told t)
+    (branches-returns t)
+    (branches-without-requires t)
+    (branches-largest-requires t)
+    (branches-enum-known-more t)
+    (branches-with-requires t)
+    (branches-without-requires-2 t)
+    (branches-branches-requires t)
+    (branches-enum-told-2 t)
+    (branches-same-length t)
+    (branches-returns-2 t)
+    (branches-same-length-2 t)
+    (branches-returns-3 t))
+    (λ t. by-asking-lts.spec (by-asking-calls t)
+    (by-asking-at t)
+    by-asking.Post
+    by-asking-Inv-loop
+    by-asking-μ-loop
+    (by-asking-start-requires t)
+    (by-asking-loop-holds t)
+    (by-asking-slice-relend-prefix-search t)
+    (by-asking-slice-aggregate-search t)
+    (by-asking-search-requires t)
+    (by-asking-enum-told t)
+    (by-asking-same-length t)
+    (by-asking-returns t)
+    (by-asking-enum-told-2 t)
+    (by-asking-same-length-2 t)
+    (by-asking-returns-2 t)
+    (by-asking-enum-known-asked t)
+    (by-asking-keeps-requires t)
+    (by-asking-slice-relend-prefix-take t)
+    (by-asking-slice-aggregate-take t)
+    (by-asking-take-requires t)
+    (by-asking-loop-less t)
+    (by-asking-loop-again t)
+    (by-asking-skip-requires t)
+    (by-asking-loop-less-2 t)
+    (by-asking-loop-again-2 t))
+    (λ t. by-list-lts.spec (by-list-calls t)
+    (by-list-at t)
+    by-list.Post
+    (by-list-closed-requires t)
+    (by-list-intersection-requires t)
+    (by-list-minus-requires t)
+    (by-list-largest-requires t)
+    (by-list-enum-known-k t)
+    (by-list-selected-requires t)
+    (by-list-enum-told t)
+    (by-list-same-length t)
+    (by-list-returns t)
+    (by-list-same-length-2 t)
+    (by-list-returns-2 t)
+    (by-list-same-length-3 t)
+    (by-list-returns-3 t))
+    (λ t. case-holds-lts.spec (case-holds-calls t)
+    (case-holds-at t)
+    case-holds.Post
+    (case-holds-branch-requires t)
+    (case-holds-enum-known-v t)
+    (case-holds-world-requires t)
+    (case-holds-enum-told t)
+    (case-holds-same-length t)
+    (case-holds-returns t)
+    (case-holds-returns-2 t))
+    (λ t. core-of-lts.spec (core-of-calls t)
+    (core-of-at t)
+    core-of.Post
+    core-of-Inv-loop
+    core-of-μ-loop
+    (core-of-loop-holds t)
+    (core-of-highest-requires t)
+    (core-of-enum-known-i t)
+    (core-of-enum-told t)
+    (core-of-same-length t)
+    (core-of-returns t)
+    (core-of-without-requires t)
+    (core-of-without-requires-2 t)
+    (core-of-union-requires t)
+    (core-of-keeps-requires t)
+    (core-of-loop-less t)
+    (core-of-loop-again t)
+    (core-of-loop-less-2 t)
+    (core-of-loop-again-2 t))
+    (λ t. greedy-lts.spec (greedy-calls t)
+    (greedy-at t)
+    greedy.Post
+    greedy-Inv-loop
+    greedy-μ-loop
+    (greedy-loop-holds t)
+    (greedy-met-requires t)
+    (greedy-same-length t)
+    (greedy-returns t)
+    (greedy-unmet-requires t)
+    (greedy-intersection-requires t)
+    (greedy-used-up-requires t)
+    (greedy-intersection-requires-2 t)
+    (greedy-empty-requires t)
+    (greedy-highest-of-requires t)
+    (greedy-grown-requires t)
+    (greedy-grown-requires-2 t)
+    (greedy-grown-requires-3 t)
+    (greedy-grown-requires-4 t)
+    (greedy-useful-requires t)
+    (greedy-same-length-2 t)
+    (greedy-returns-2 t)
+    (greedy-put-slot-requires t)
+    (greedy-add-slots t)
+    (greedy-loop-less t)
+    (greedy-loop-again t))
+    (λ t. grown-lts.spec (grown-calls t)
+    (grown-at t)
+    grown.Post
+    grown-Inv-loop
+    grown-μ-loop
+    (grown-loop-holds t)
+    (grown-highest-requires t)
+    (grown-enum-known-i t)
+    (grown-enum-told t)
+    (grown-same-length t)
+    (grown-returns t)
+    (grown-without-requires t)
+    (grown-with-requires t)
+    (grown-keeps-requires t)
+    (grown-loop-less t)
+    (grown-loop-again t)
+    (grown-loop-less-2 t)
+    (grown-loop-again-2 t))
+    (λ t. keeps-lts.spec (keeps-calls t)
+    (keeps-at t)
+    keeps.Post
+    (keeps-sub-promised t)
+    (keeps-promised-requires t)
+    (keeps-enum-known-v t)
+    (keeps-next-requires t)
+    (keeps-enum-told t)
+    (keeps-same-length t)
+    (keeps-returns t)
+    (keeps-returns-2 t))
+    (λ t. largest-lts.spec (largest-calls t)
+    (largest-at t)
+    largest.Post
+    (largest-union-requires t)
+    (largest-has-need-requires t)
+    (largest-returns t)
+    (largest-known-requires t)
+    (largest-same-length t)
+    (largest-returns-2 t)
+    (largest-keeps-requires t)
+    (largest-also-requires t)
+    (largest-same-length-2 t)
+    (largest-returns-3 t)
+    (largest-core-of-requires t)
+    (largest-branches-requires t)
+    (largest-same-length-3 t)
+    (largest-returns-4 t))
+    (λ t. next-lts.spec (next-calls t)
+    (next-at t)
+    next.Post
+    (next-add-from t)
+    (next-mul-from t)
+    (next-recall-requires t)
+    (next-enum-known-known t)
+    (next-same-length t)
+    (next-returns t)
+    (next-enum-told t)
+    (next-empty-requires t)
+    (next-sub-world t)
+    (next-mul-world t)
+    (next-sub-world-2 t)
+    (next-part-world-start t)
+    (next-part-world-end t)
+    (next-world-requires t)
+    (next-remember-requires t)
+    (next-same-length-2 t)
+    (next-returns-2 t))
+    (λ t. opposed-lts.spec (opposed-calls t)
+    (opposed-at t)
+    opposed.Post
+    opposed-Inv-loop
+    opposed-μ-loop
+    (opposed-len-requires t)
+    (opposed-returns t)
+    (opposed-loop-holds t)
+    (opposed-highest-requires t)
+    (opposed-enum-known-i t)
+    (opposed-enum-told t)
+    (opposed-same-length t)
+    (opposed-returns-2 t)
+    (opposed-highest-requires-2 t)
+    (opposed-enum-known-j t)
+    (opposed-without-requires t)
+    (opposed-exceeds-requires t)
+    (opposed-pair-requires t)
+    (opposed-keeps-requires t)
+    (opposed-same-length-2 t)
+    (opposed-returns-3 t)
+    (opposed-loop-less t)
+    (opposed-loop-again t)
+    (opposed-loop-less-2 t)
+    (opposed-loop-again-2 t)
+    (opposed-enum-told-2 t)
+    (opposed-without-requires-2 t)
+    (opposed-loop-less-3 t)
+    (opposed-loop-again-3 t))
+    (λ t. past-list-lts.spec (past-list-calls t)
+    (past-list-at t)
+    past-list.Post
+    (past-list-weighed-requires t)
+    (past-list-narrowed-requires t)
+    (past-list-asking-requires t)
+    (past-list-by-list-requires t)
+    (past-list-enum-told t)
+    (past-list-same-length t)
+    (past-list-returns t)
+    (past-list-by-asking-requires t)
+    (past-list-same-length-2 t)
+    (past-list-returns-2 t))
+    (λ t. refuted-lts.spec (refuted-calls t)
+    (refuted-at t)
+    refuted.Post
+    (refuted-is-empty-requires t)
+    (refuted-returns t)
+    (refuted-relations-requires t)
+    (refuted-same-length t)
+    (refuted-returns-2 t))
+    (λ t. relations-lts.spec (relations-calls t)
+    (relations-at t)
+    relations.Post
+    relations-Inv-loop
+    relations-μ-loop
+    (relations-counted-requires t)
+    (relations-loop-holds t)
+    (relations-highest-requires t)
+    (relations-enum-known-i t)
+    (relations-enum-told t)
+    (relations-same-length t)
+    (relations-returns t)
+    (relations-question-of-requires t)
+    (relations-asking-requires t)
+    (relations-solve-requires t)
+    (relations-same-length-2 t)
+    (relations-returns-2 t)
+    (relations-minus-requires t)
+    (relations-loop-less t)
+    (relations-loop-again t))
+    (λ t. solve-lts.spec (solve-calls t)
+    (solve-at t)
+    solve.Post
+    (solve-keeps-requires t)
+    (solve-same-length t)
+    (solve-returns t)
+    (solve-opposed-requires t)
+    (solve-same-length-2 t)
+    (solve-returns-2 t)
+    (solve-greedy-requires t)
+    (solve-same-length-3 t)
+    (solve-returns-3 t)
+    (solve-by-list-requires t)
+    (solve-enum-told t)
+    (solve-enum-told-2 t)
+    (solve-enum-told-3 t)
+    (solve-past-list-requires t)
+    (solve-same-length-4 t)
+    (solve-returns-4 t)
+    (solve-same-length-5 t)
+    (solve-returns-5 t)
+    (solve-same-length-6 t)
+    (solve-returns-6 t))
+    (λ t. split-lts.spec (split-calls t)
+    (split-at t)
+    split.Post
+    (split-highest-requires t)
+    (split-enum-known-d t)
+    (split-enum-told t)
+    (split-relations-requires t)
+    (split-same-length t)
+    (split-returns t)
+    (split-counted-requires t)
+    (split-minus-requires t)
+    (split-refuted-requires t)
+    (split-same-length-2 t)
+    (split-returns-2 t)
+    (split-case-holds-requires t)
+    (split-same-length-3 t)
+    (split-returns-3 t)
+    (split-case-holds-requires-2 t)
+    (split-same-length-4 t)
+    (split-returns-4 t))
+    λ t. world-lts.spec (world-calls t)
+    (world-at t)
+    world.Post
+    (world-force-requires t)
+    (world-enum-known-v t)
+    (world-split-requires t)
+    (world-enum-told t)
+    (world-same-length t)
+    (world-returns t)
+    (world-returns-2 t)

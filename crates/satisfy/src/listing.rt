@@ -1,0 +1,119 @@
+// The list of the largest sets of promises that can be kept: where it stands in the words of a level, whether a set is
+// inside a listed one, and one more.
+ghost use mathlib.Core.Path.{_≡_};
+ghost use mathlib.Core.Bool.{true};
+ghost use Prim.Native.Nat.{_-_, _≤_};
+ghost use lib.ListN.{length};
+ghost use Rattle.sets.specs.Set.{member, code, Within};
+ghost use Rattle.listed.specs.Codes.{Inside};
+ghost use Rattle.wide.specs.Wide.{wideAt};
+ghost use Rattle.tableau.specs.Wants.{Answers};
+ghost use Rattle.tableau.specs.Search.{Solvable};
+ghost use Rattle.counting.specs.Question.{problemOf};
+ghost use Rattle.satisfy.specs.Asking.{listRoom, Remembers};
+ghost use Rattle.satisfy.specs.Listing.{Placed, listOf, AlsoIs, SelectAsked, WeighAsked, NarrowedIs};
+use counting::question::Question;
+use listed::append;
+use listed::covered;
+use selection::relaxing::support;
+use selection::solved;
+use sets::Highest;
+use sets::Set;
+
+// How many sets are listed, if there was room.
+pub enum Listing {
+    Room(usize),
+    Full,
+}
+
+// What a list says of a problem.
+pub enum Said {
+    // It has a solution.
+    Yes,
+    // It has none.
+    No,
+    // The list had no room.
+    Nothing,
+}
+
+// Where the list begins in a level.
+pub fn place(n: usize, level: usize) -> usize
+    requires { ⌜ (n ≤ 64) × (listRoom n ≤ level) ⌝ }
+    ensures { λ r. ⌜ r ≡ level - listRoom n ⌝ }
+{
+    level - (8 * n + 8)
+}
+
+// Whether the set is inside one of the k listed sets.
+pub fn known(entries: &[u64], set: Set, k: usize, level: usize, work: &[u64]) -> bool
+    requires { ⌜ Placed (length (now entries)) k level (length (now work)) ⌝ }
+    ensures { λ r. ⌜ (r ≡ true → Inside (member set) (listOf (length (now (entries .entry))) level (now (work .entry)) k)) ⌝ }
+{
+    covered(work, place(entries.len(), level), k, set)
+}
+
+// Lists the set too, if there is room.
+pub fn also(entries: &[u64], set: Set, k: usize, level: usize, work: &mut [u64]) -> Listing
+    requires { ⌜ Placed (length (now entries)) k level (length (now work)) ⌝ }
+    ensures { λ r. ⌜ AlsoIs (length (now (entries .entry))) level k (code set) (now (work .entry)) (now (work .exit)) r ⌝ }
+{
+    let n = entries.len();
+    if 8 * n + 8 <= k {
+        return Listing::Full;
+    }
+    append(work, place(n, level), k, set);
+    Listing::Room(k + 1)
+}
+
+// Whether there is a solution, where k listed sets stand for all.
+pub fn selected(
+    entries: &[u64],
+    q: Question,
+    all: Set,
+    k: usize,
+    depth: usize,
+    level: usize,
+    work: &mut [u64],
+) -> bool
+    requires { ⌜ SelectAsked (problemOf (now entries) q) all k depth level (now work) ⌝ }
+    ensures { λ r. ⌜ Answers r (Solvable (problemOf (now (entries .entry)) q)) × Remembers (wideAt (now (entries .entry))) depth level (now (work .exit)) ⌝ }
+{
+    let at = place(entries.len(), level);
+    let reach = (depth + 1) * level;
+    solved(entries, q, all, &mut work[..reach], at, k)
+}
+
+// The set of the highest member alone.
+pub fn highest_of(set: Set) -> Set
+    ensures { λ r. ⌜ Within (member r) (member set) ⌝ }
+{
+    let Highest::At(i) = set.highest() else {
+        return set;
+    };
+    set.minus(set.without(i))
+}
+
+// The entries that weights on the first sets of a full list speak of: what to try next. Nothing is promised of them, and the
+// words of the other sets are free for the weights to be found in.
+pub fn weighed(entries: &[u64], q: Question, depth: usize, level: usize, work: &mut [u64]) -> Set
+    requires { ⌜ WeighAsked (problemOf (now entries) q) depth level (now work) ⌝ }
+    ensures { λ r. ⌜ Remembers (wideAt (now (entries .entry))) depth level (now (work .exit)) ⌝ }
+{
+    let n = entries.len();
+    let at = place(n, level);
+    let reach = (depth + 1) * level;
+    support(entries, q, &mut work[..reach], at, 2 * n)
+}
+
+// The question of the entries in a set alone.
+pub fn narrowed(q: Question, s: Set) -> Question
+    ensures { λ r. ⌜ NarrowedIs q s r ⌝ }
+{
+    let yes = q.yes;
+    let no = q.no;
+    Question {
+        yes: yes.intersection(s),
+        no: no.intersection(s),
+        relation: q.relation,
+    }
+}

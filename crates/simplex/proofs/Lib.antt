@@ -1,0 +1,2 @@
+-- the product of two factors fits a word
+pub mod Product

@@ -1,0 +1,65 @@
+-- What is checked, set by set and in sum, is a refutation by weights: of needs and limits, each with the weight of its entry.
+use mathlib.Core.Path.{_≡_, refl, _∙_}
+use mathlib.Core.Logic.{by-cases}
+use mathlib.Core.Bool.{Bool, true, false, not, _&&_}
+use mathlib.Core.List.{List}
+use Prim.Native.Nat.{ℕ, _*_, _/_, _<_, _≤_}
+use native.Mathlib.Nat.{lt-irrefl, mul-one, mul-zero, zero-mul}
+use native.Mathlib.Decide.{ℕ-discrete}
+use native.Mathlib.Omega.{arith}
+use borrow.Author.Tests.{ne-eqb}
+use Rattle.semantics.specs.Structure.{bit}
+use Rattle.semantics.proofs.Successors.{gain}
+use Rattle.sets.specs.Set.{added, both, butNot}
+use Rattle.sets.specs.Word.{bitAt}
+use Rattle.tableau.specs.Search.{Slot, Problem, Asks}
+use Rattle.tableau.specs.Listed.{In}
+use Rattle.tableau.specs.Weights.{sum, up, lack, room, Refuted}
+use Rattle.weights.specs.Weighed.{over, OnlyAsked}
+use Rattle.weights.proofs.Sums.{sum-same, sum-cut}
+
+-- one more that is asked
+pub only-added : {P : Problem} {c : Bool} {p : ℕ → Bool} {i : ℕ} → OnlyAsked P c p → Asks P c i → OnlyAsked P c (added p i)
+only-added {i = i} all here j h =
+    by-cases (ℕ-discrete j i) (λ (e : j ≡ i). rw e here) (λ (ne : ¬ (j ≡ i)). all j (rw (ne-eqb j i ne) at h))
+
+gain-both : (a b : Bool) (w : ℕ) → gain a w * bit b ≡ gain (a && b) w
+gain-both true true w = mul-one w
+gain-both true false w = mul-zero w
+gain-both false b w = zero-mul (bit b)
+
+gain-times : (a : Bool) (w x : ℕ) → gain a w * x ≡ gain a (w * x)
+gain-times true w x = refl
+gain-times false w x = zero-mul x
+
+gain-passed : (a : Bool) (w : ℕ) → 0 < gain a w → a ≡ true
+gain-passed true w h = refl
+gain-passed false w h = absurd (lt-irrefl 0 h)
+
+gain-none : (a : Bool) (w : ℕ) → (a ≡ true → ⊥) → gain a w ≡ 0
+gain-none true w h = absurd (h refl)
+gain-none false w h = refl
+
+module _ (P : Problem) (few : P .n ≤ 64) (f : ℕ → ℕ) where
+  module _ (c : Bool) (p : ℕ → Bool) (only : OnlyAsked P c p) where
+    -- only entries have a weight
+    whole : (g : ℕ → ℕ) → sum (λ i. gain (p i) (f i) * g i) (P .n) ≡ sum (λ i. gain (p i) (f i) * g i) 64
+    whole g = sum-cut 64 (λ i l. rw (gain-none (p i) (f i) (λ h. lt-irrefl i (omega (arith, only i h .inside)))) (zero-mul (g i))) few
+
+    sum-times : (g : ℕ → ℕ) → sum (λ i. gain (p i) (f i) * g i) (P .n) ≡ over p (λ i. f i * g i)
+    sum-times g = whole g ∙ sum-same 64 (λ i l. gain-times (p i) (f i) (g i))
+
+    sum-both : (q : ℕ → Bool) → sum (λ i. gain (p i) (f i) * bit (q i)) (P .n) ≡ over (both p q) f
+    sum-both q = whole (λ i. bit (q i)) ∙ sum-same 64 (λ i l. gain-both (p i) (q i) (f i))
+
+  pub refuted-made : (slots : List Slot) (list : List ℕ) (needs limits : ℕ → Bool) (r : ℕ) → OnlyAsked P true needs → OnlyAsked P false limits → 0 < r
+      → ((c : ℕ) → In c list → up (over (both needs (bitAt c)) f) r ≤ over (butNot limits (bitAt c)) f / r)
+      → over limits (λ j. f j * room P slots j) / r < up (over needs (λ i. f i * lack P slots i)) r
+      → Refuted P slots list (λ i. gain (needs i) (f i)) (λ j. gain (limits j) (f j)) r
+  refuted-made slots list needs limits r are-needs are-limits divisor balanced gap = record {
+    divisor = divisor;
+    needs = λ i h. are-needs i (gain-passed (needs i) (f i) h);
+    limits = λ j h. are-limits j (gain-passed (limits j) (f j) h);
+    sets = λ c h. rw (sum-both true needs are-needs (bitAt c), sum-both false limits are-limits (λ j. not (bitAt c j))) (balanced c h);
+    gap = rw (sum-times true needs are-needs (lack P slots), sum-times false limits are-limits (room P slots)) gap;
+  }

@@ -1,0 +1,2 @@
+-- weights in words
+pub mod Weighed

@@ -1,0 +1,43 @@
+-- Weights in lent words, one an entry: what a set of entries weighs, and what the slots leave, weighed.
+use mathlib.Core.Path.{_≡_}
+use mathlib.Core.Bool.{Bool, true, cond}
+use mathlib.Core.List.{List}
+use Prim.Native.Nat.{ℕ, _+_, _-_, _*_, _/_, _%_, _≤_}
+use lib.ListN.{getD}
+use Rattle.semantics.proofs.Successors.{gain}
+use Rattle.sets.specs.Set.{both, butNot}
+use Rattle.sets.specs.Word.{bitAt}
+use Rattle.table.specs.declared.entry.Entry.{Entry}
+use Rattle.wide.specs.Wide.{wideAt}
+use Rattle.tableau.specs.Counting.{lo, hi, total}
+use Rattle.tableau.specs.Search.{rowsOf, Problem, Asks}
+use Rattle.tableau.specs.Weights.{sum, up}
+use Rattle.counting.specs.Stack.{slotsOf, counts}
+
+-- the weight of entry i: the word at from + i, of which only the lower 30 bits count
+abbrev pub weightAt : List ℕ → (from : ℕ) → ℕ → ℕ
+weightAt words from i = getD words (from + i) 0 % 1073741824
+
+-- the sum of the numbers f i over the members i of a set
+abbrev pub over : (ℕ → Bool) → (ℕ → ℕ) → ℕ
+over p f = sum (λ i. gain (p i) (f i)) 64
+
+-- all members are needs (c true); all are limits (c false)
+abbrev pub OnlyAsked : Problem → (c : Bool) → (ℕ → Bool) → Type 0
+OnlyAsked P c p = (i : ℕ) → p i ≡ true → Asks P c i
+
+-- rounded by r, the set with the code c serves no more of the needs than it costs of the limits
+abbrev pub Balanced : List ℕ → (from : ℕ) → (needs limits : ℕ → Bool) → (r c : ℕ) → Type 0
+Balanced words from needs limits r c =
+    up (over (both needs (bitAt c)) (weightAt words from)) r ≤ over (butNot limits (bitAt c)) (weightAt words from) / r
+
+-- how many successors an entry asks for as a need (c true), how many it allows as a limit (c false)
+abbrev pub boundOf : (c : Bool) → Entry → ℕ
+boundOf c e = cond c (lo e) (hi e)
+
+-- what entry i lacks behind k slots as a need, the room under it as a limit; and that, weighed
+abbrev pub leftOf : (entries words : List ℕ) (k : ℕ) (c : Bool) → ℕ → ℕ
+leftOf entries words k c i = boundOf c (wideAt entries i) - total (λ row. counts c (row .promises i)) (rowsOf (slotsOf words k))
+
+abbrev pub leftWeight : (entries words : List ℕ) (k from : ℕ) (c : Bool) → ℕ → ℕ
+leftWeight entries words k from c i = weightAt words from i * leftOf entries words k c i
