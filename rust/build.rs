@@ -17,6 +17,11 @@ fn main() {
 fn archive_dir() -> PathBuf {
     match env::var_os("HURNAVIS_LIB_DIR") {
         Some(dir) => PathBuf::from(dir),
-        None => PathBuf::from(env!("CARGO_MANIFEST_DIR")).join("../target/staticlib"),
+        // Read when the script runs: a path compiled in would follow a copied target directory to the tree it came from.
+        None => manifest_dir().join("../target/staticlib"),
     }
+}
+
+fn manifest_dir() -> PathBuf {
+    PathBuf::from(env::var_os("CARGO_MANIFEST_DIR").expect("cargo names the package's directory"))
 }

@@ -2,15 +2,26 @@
 //!
 //! `bench` prints a Markdown table with some words around it, `bench --markdown` the table alone, `bench --family TEXT`
 //! only the families whose name contains the text. Each size runs in a process of its own, because a call cannot be
-//! interrupted: the process ends itself when a call takes over 2 seconds, and the family stops there.
+//! interrupted: the process ends itself when a call takes over 2 seconds, and a growing family stops there.
 
+mod bounded;
 mod case;
+mod chains;
+mod colours;
+mod cycles;
 mod families;
+mod numbers;
+mod overlaps;
+mod parts;
+mod pigeons;
+mod planes;
 mod show;
+mod slow_inputs;
 mod tables;
+mod worlds;
 
 use case::Measured;
-use families::{Family, FAMILIES};
+use families::Family;
 use std::env;
 use std::io::{self, Write};
 use std::process::{Command, ExitCode};
@@ -43,7 +54,7 @@ fn all(part: &str, bare: bool) -> ExitCode {
     println!("| family | size | answer | Hurnavis | independent | ratio |");
     println!("|---|---|---|---|---|---|");
     let mut good = true;
-    for family in FAMILIES.iter().filter(|f| f.name.contains(part)) {
+    for family in families::all().filter(|f| f.name.contains(part)) {
         good &= rows(family);
     }
     if good {
@@ -54,7 +65,7 @@ fn all(part: &str, bare: bool) -> ExitCode {
     }
 }
 
-/// Prints a row for each size, up to the first that takes too long; false if something went wrong.
+/// Prints a row for each size, in a growing family up to the first that takes too long; false if something went wrong.
 fn rows(family: &Family) -> bool {
     for size in family.sizes {
         let Some(row) = run(family, *size) else {
@@ -65,7 +76,7 @@ fn rows(family: &Family) -> bool {
         if row.disagrees() {
             return false;
         }
-        if over {
+        if over && family.grows {
             break;
         }
     }
@@ -138,7 +149,7 @@ fn read(text: &str, side: &str) -> Option<Measured> {
 
 /// Measures one size here: first the independent side, which ends by itself, then the library within the limit.
 fn one(family: &str, size: &str) -> ExitCode {
-    let family = FAMILIES.iter().find(|f| f.name == family);
+    let family = families::all().find(|f| f.name == family);
     let (Some(family), Ok(size)) = (family, size.parse::<usize>()) else {
         return ExitCode::FAILURE;
     };

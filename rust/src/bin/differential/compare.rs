@@ -13,12 +13,10 @@ use hurnavis::{Fault, Mark};
 /// Compares the library with the independent side on the input. The message says what differs.
 pub fn input(input: &Input, random: &mut Xorshift, tally: &mut Tally) -> Result<(), String> {
     let checked = refusals::table(&input.table);
+    let given_up = tally.given_up;
     check(input, &checked)?;
     board(input, random, tally)?;
     let decided = decide(input, random, tally)?;
-    let family = tally.families.entry(input.family).or_default();
-    family.0 += 1;
-    family.1 += (decided == Some(0)) as usize;
     let marked = mark(input, random, tally)?;
     if let Ok(entries) = checked {
         if input.model < entries.len() && input.answer < entries.len() {
@@ -27,6 +25,10 @@ pub fn input(input: &Input, random: &mut Xorshift, tally: &mut Tally) -> Result<
             tried(&entries, input, random, decided, &marks, tally)?;
         }
     }
+    let family = tally.families.entry(input.family).or_default();
+    family.all += 1;
+    family.unsatisfiable += (decided == Some(0)) as usize;
+    family.given_up += (tally.given_up > given_up) as usize;
     Ok(())
 }
 

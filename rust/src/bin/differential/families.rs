@@ -25,24 +25,29 @@ pub fn draw(random: &mut Xorshift) -> Input {
 
 /// A formula and a descendant of it by rewrites and mutations, in one table.
 pub fn pair(random: &mut Xorshift) -> Input {
-    let mut signs = Signs::draw(random, 2);
-    let size = random.between(1, 9);
+    let countings = random.pick(&[2, 3, 4, 5]);
+    let mut signs = Signs::draw(random, countings);
+    let size = random.between(1, 17);
     let model = formula::draw(random, &mut signs, size);
     written_pair(random, &signs, model)
 }
 
-/// Needs and limits on one relation: up to four beside their own parts, or two beside a descendant.
+/// How many needs and limits stand on one relation.
+const COUNTINGS: &[usize] = &[2, 3, 4, 5, 6, 6, 7, 7, 8, 8, 9, 10];
+
+/// Needs and limits on one relation: up to ten beside their own parts, or up to five beside a descendant.
 fn needs(random: &mut Xorshift) -> Input {
     let signs = Signs::draw(random, 0);
     let atoms = formula::facts(&signs);
     let relation = signs.relations[0];
     if random.percent(30) {
-        let model = formula::needs_and_limits(random, relation, &atoms, 2);
+        let count = random.pick(COUNTINGS) / 2;
+        let model = formula::needs_and_limits(random, relation, &atoms, count);
         return written_pair(random, &signs, model);
     }
-    let count = random.between(2, 4);
+    let count = random.pick(COUNTINGS);
     let mut table = Writer::new();
-    let model = formula::needs_and_limits(random, relation, &atoms, count).write(&mut table);
+    let model = fitting(random, relation, &atoms, count).write(&mut table);
     let answer = random.below(table.count());
     over(random, "needs and limits", &table, (model, answer))
 }
@@ -57,12 +62,21 @@ fn nested_needs(random: &mut Xorshift) -> Input {
     for _ in 0..random.between(1, 2) {
         atoms.push(formula::needs_and_limits(random, inner, &facts, 1));
     }
-    let count = random.between(1, 3);
+    let count = random.pick(&[1, 2, 3, 3, 4, 5, 6, 8]);
     let relation = signs.relations[0];
     let mut table = Writer::new();
-    let model = formula::needs_and_limits(random, relation, &atoms, count).write(&mut table);
+    let model = fitting(random, relation, &atoms, count).write(&mut table);
     let answer = random.below(table.count());
     over(random, "nested needs", &table, (model, answer))
+}
+
+/// Needs and limits that fit into a table together with four entries more; fewer of them, if they do not.
+fn fitting(random: &mut Xorshift, relation: u8, atoms: &[Formula], count: usize) -> Formula {
+    let drawn = formula::needs_and_limits(random, relation, atoms, count);
+    if count > 1 && drawn.size() + 4 > layout::MOST_ENTRIES {
+        return fitting(random, relation, atoms, count - 1);
+    }
+    drawn
 }
 
 /// Two countings with grades at the end of the byte, where "not at most 255" asks for 256.
@@ -113,7 +127,8 @@ fn written_pair(random: &mut Xorshift, signs: &Signs, model: Formula) -> Input {
 
 /// Entries drawn one by one, so that parts are shared.
 pub fn entries(random: &mut Xorshift) -> Input {
-    let mut signs = Signs::draw(random, 3);
+    let countings = random.pick(&[3, 5, 8, 10]);
+    let mut signs = Signs::draw(random, countings);
     let count = random.pick(&[2, 4, 6, 8, 10, 12, 13, 14, 18, 24, 40]);
     let mut table = Writer::new();
     for number in 0..count {

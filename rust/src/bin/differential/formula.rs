@@ -1,4 +1,4 @@
-//! Random formulas, kept small where the decision is expensive: few countings on one relation, small grades.
+//! Random formulas, kept to what the independent side can mostly answer: up to ten countings on one relation, small grades.
 
 use hurnavis::writer::Writer;
 use hurnavis::xorshift::Xorshift;
@@ -83,14 +83,14 @@ pub struct Signs {
 }
 
 impl Signs {
-    /// One to three facts, one or two relations, `countings` for each of these.
+    /// One to five facts, one or two relations, `countings` for each of these.
     pub fn draw(random: &mut Xorshift, countings: usize) -> Signs {
-        let facts = random.between(1, 3);
+        let facts = random.pick(&[1, 2, 2, 3, 3, 4, 5]);
         let relations = random.pick(&[1, 2]);
         let start = random.word() as u8;
         Signs {
             facts: (0..facts)
-                .map(|i| random.pick(&[i as u8, i as u8, 253 + i as u8]))
+                .map(|i| random.pick(&[i as u8, i as u8, 251 + i as u8]))
                 .collect(),
             relations: (0..relations)
                 .map(|i| random.pick(&[i as u8, 255 - i as u8, start.wrapping_add(i as u8)]))

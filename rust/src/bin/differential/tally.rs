@@ -32,10 +32,19 @@ impl Results {
     }
 }
 
+/// How many inputs of a family there were, how many of them the decision calls unsatisfiable, and on how many the
+/// independent side gave up at least once.
+#[derive(Default)]
+pub struct Inputs {
+    pub all: usize,
+    pub unsatisfiable: usize,
+    pub given_up: usize,
+}
+
 #[derive(Default)]
 pub struct Tally {
-    /// The inputs of each family, and how many of them the decision calls unsatisfiable.
-    pub families: BTreeMap<&'static str, (usize, usize)>,
+    /// The inputs of each family.
+    pub families: BTreeMap<&'static str, Inputs>,
     pub board: Results,
     pub decide: Results,
     pub mark: Results,
@@ -64,9 +73,14 @@ impl Tally {
     }
 
     pub fn print(&self) {
-        println!("inputs by family, and unsatisfiable ones among them:");
-        for (family, (inputs, unsatisfiable)) in &self.families {
-            println!("    {family:16} {inputs:8} {unsatisfiable:8}");
+        println!(
+            "inputs by family, unsatisfiable ones, and ones where the independent side gave up:"
+        );
+        for (family, inputs) in &self.families {
+            println!(
+                "    {family:16} {:8} {:8} {:8}",
+                inputs.all, inputs.unsatisfiable, inputs.given_up
+            );
         }
         self.board.print("board");
         self.decide.print("decide");
