@@ -4,15 +4,14 @@ use mathlib.Core.Logic.{by-cases}
 use mathlib.Core.Bool.{Bool, true, false, _||_, false≢true}
 use mathlib.Core.List.{List}
 use Prim.Native.Nat.{ℕ, zero, suc, _+_, _*_, _/_, _<_, _≤_}
-use native.Mathlib.Nat.{mul-comm, mul-assoc, le-of-eq}
+use native.Mathlib.Nat.{mul-comm, mul-assoc, le-of-eq, le-trans}
 use native.Mathlib.Decide.{ℕ-discrete}
 use native.Mathlib.Numerals.{add-one}
 use native.Mathlib.Omega.{arith}
 use lib.ListN.{take}
 use borrow.Author.Tests.{eq-eqb, ne-eqb}
-use Rattle.semantics.specs.Formula.{Formula, depth}
 use Rattle.semantics.specs.Structure.{Structure}
-use Rattle.semantics.specs.Truth.{truth, Satisfiable}
+use Rattle.semantics.specs.Truth.{Satisfiable}
 use Rattle.sets.specs.Set.{nothing, added}
 use Rattle.table.specs.declared.entry.Entry.{Entry}
 use Rattle.table.specs.Entry.{entryAt, size}
@@ -20,10 +19,9 @@ use Rattle.table.specs.Formulas.{formulaAt, depthAt}
 use Rattle.table.specs.Space.{weight, gradeSum, tableWork}
 use Rattle.faults.specs.declared.Verdict.the-variants.{Accepted}
 use Rattle.table.specs.Check.{tableVerdict}
-use Rattle.table.proofs.Accepted.{accepted}
 use Rattle.tableau.specs.Wants.{Answers, truthAt, Sat}
 use Rattle.wide.specs.Wide.{wideAt, Widened}
-use Rattle.wide.proofs.Widening.{wide-weight, wide-formed, wide-formula}
+use Rattle.wide.proofs.Widening.{wide-weight, wide-formed, wide-stands}
 use Rattle.satisfy.specs.Asking.{Roomy}
 use Rattle.satisfy.specs.Sets.{SetsAsked}
 use Rattle.decision.specs.Ask.{TableAsked}
@@ -45,15 +43,12 @@ half d x =
     )
 
 module _ (bytes words : List ℕ) {yes no : ℕ → Bool} {d count : ℕ} (asked : TableAsked bytes yes no d count) (held : Widened bytes (size bytes) words) where
-  depth-same : (i : ℕ) → i < size bytes → depthAt (wideAt (take (size bytes) words)) i ≡ depthAt (entryAt bytes) i
-  depth-same i inside = ap depth (wide-formula held (accepted bytes (asked .accepted)) i inside)
-
   pub sets-asked : SetsAsked (wideAt (take (size bytes) words)) (size bytes) yes no d
   sets-asked = record {
-    formed = wide-formed held (accepted bytes (asked .accepted));
+    formed = wide-formed held;
     few = accepted-small bytes (asked .accepted);
     below = asked .below;
-    shallow = λ b i h. rw (depth-same i (asked .below b i h)) (asked .shallow b i h);
+    shallow = λ b i h. le-trans (wide-stands held i (asked .below b i h) .shallow) (asked .shallow b i h);
   }
 
   pub sets-room : Roomy (wideAt (take (size bytes) words)) (size bytes) d (tableWork bytes 0 / 2) count
@@ -66,7 +61,7 @@ module _ (bytes words : List ℕ) {yes no : ℕ → Bool} {d count : ℕ} (asked
       }
 
   truth-same : (s : Structure) (w i : ℕ) → i < size bytes → truthAt (wideAt (take (size bytes) words)) s w i ≡ truthAt (entryAt bytes) s w i
-  truth-same s w i inside = ap (λ (φ : Formula). truth s φ w) (wide-formula held (accepted bytes (asked .accepted)) i inside)
+  truth-same s w i inside = wide-stands held i inside .same s w
 
   pub sets-answer : (r : Bool) → Answers r (Sat (wideAt (take (size bytes) words)) yes no) → Answers r (Sat (entryAt bytes) yes no)
   sets-answer true sat = record {

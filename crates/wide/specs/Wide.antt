@@ -1,12 +1,18 @@
 -- The wide layout: an entry in a 64-bit word, with room for more entries, facts and grades than the packed table has.
+-- And what words made from a table promise.
 use mathlib.Core.Path.{_≡_}
-use mathlib.Core.Logic.{_⊎_}
 use mathlib.Core.List.{List}
 use Prim.Native.Nat.{ℕ, _<_, _≤_}
 use lib.ListN.{getD}
-use Rattle.table.specs.declared.entry.Entry.{Entry}
+use Rattle.semantics.specs.Formula.{Formula, depth}
+use Rattle.semantics.specs.Structure.{Structure}
+use Rattle.semantics.specs.Truth.{truth}
 use Rattle.packed.specs.Field.{field}
+use Rattle.table.specs.declared.entry.Entry.{Entry}
 use Rattle.table.specs.Entry.{entryAt}
+use Rattle.table.specs.Formulas.{formulaAt}
+use Rattle.table.specs.Space.{weight}
+use Rattle.table.proofs.Accepted.{WellFormed}
 
 -- kind 4 bits, name 16, another name 16 that is not used yet, first 8, second 8, grade 12, most significant first
 abbrev pub wideOf : ℕ → Entry
@@ -25,19 +31,14 @@ pub record FitsWide (e : Entry) : Type 0 where
   pub second : e .second < 256
   pub grade : e .grade < 4096
 
--- place j stands for place r among the first n words: it is the same, or an earlier one with the same word
-abbrev pub StandsFor : List ℕ → (n j r : ℕ) → Type 0
-StandsFor words n j r = (j ≡ r) ⊎ ((r < n) × (j ≤ r) × (getD words j 0 ≡ getD words r 0))
+-- a formula that may stand for another one: true at the same worlds of every structure, and no deeper
+pub record StandsFor (φ ψ : Formula) : Type 0 where
+  pub same : (s : Structure) (w : ℕ) → truth s φ w ≡ truth s ψ w
+  pub shallow : depth φ ≤ depth ψ
 
--- an entry e, with references to places that stand for its own
-pub record Folded (words : List ℕ) (n : ℕ) (e folded : Entry) : Type 0 where
-  pub kind : folded .kind ≡ e .kind
-  pub name : folded .name ≡ e .name
-  pub grade : folded .grade ≡ e .grade
-  pub first : StandsFor words n (folded .first) (e .first)
-  pub second : StandsFor words n (folded .second) (e .second)
-
--- the words hold the first n entries of a table, each folded onto those before it, and 0 behind them
+-- the words hold n entries, each of which may stand for the entry of its number in a table, and 0 behind them
 pub record Widened (bytes : List ℕ) (n : ℕ) (words : List ℕ) : Type 0 where
-  pub below : (i : ℕ) → i < n → Folded words i (entryAt bytes i) (wideAt words i)
+  pub formed : WellFormed (wideAt words) n
+  pub weight : (i : ℕ) → i < n → weight (wideAt words i) ≡ weight (entryAt bytes i)
+  pub stands : (i : ℕ) → i < n → StandsFor (formulaAt (wideAt words) i) (formulaAt (entryAt bytes) i)
   pub behind : (i : ℕ) → n ≤ i → getD words i 0 ≡ 0

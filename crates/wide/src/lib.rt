@@ -1,9 +1,13 @@
 // Entries in 64-bit words, from which the decision reads them.
 ghost use mathlib.Core.Path.{_≡_};
 ghost use Prim.Native.Nat.{_≤_};
-ghost use lib.ListN.{getD};
-ghost use Rattle.table.specs.Entry.{size};
-ghost use Rattle.wide.specs.Wide.{wideOf, wideAt, FitsWide, StandsFor, Folded, Widened};
+ghost use Rattle.table.specs.Entry.{entryAt, size};
+ghost use Rattle.table.proofs.Accepted.{WellFormed};
+ghost use Rattle.wide.specs.Wide.{wideOf, wideAt, FitsWide, Widened};
+
+pub mod fold;
+
+use crate::fold::folded;
 use packed::word_at;
 use table::entry;
 use table::entry::Entry;
@@ -40,51 +44,9 @@ pub fn wide_at(entries: &[u64], i: usize) -> Entry
     unpack(word_at(entries, i))
 }
 
-// The first of the words up to place r that is the same as the word there.
-fn first_like(words: &[u64], r: usize) -> usize
-    ensures { λ j. ⌜ (j ≤ r) × (getD (now (words .entry)) j 0 ≡ getD (now (words .entry)) r 0) ⌝ }
-{
-    let word = word_at(words, r);
-    let mut j = 0;
-    while j < r {
-        if word_at(words, j) == word {
-            return j;
-        }
-        j += 1;
-    }
-    r
-}
-
-// The place that stands for place r among the first n words.
-fn stand_in(words: &[u64], n: usize, r: u32) -> u32
-    ensures { λ j. ⌜ StandsFor (now (words .entry)) n j r × (j ≤ r) ⌝ }
-{
-    let place = r as usize;
-    if n <= place {
-        return r;
-    }
-    first_like(words, place) as u32
-}
-
-// The entry with references to the places that stand for its own: equal parts are then the same part.
-fn folded(words: &[u64], n: usize, e: Entry) -> Entry
-    requires { ⌜ FitsWide e ⌝ }
-    ensures { λ r. ⌜ Folded (now (words .entry)) n e r × FitsWide r ⌝ }
-{
-    let first = stand_in(words, n, e.first);
-    let second = stand_in(words, n, e.second);
-    Entry {
-        kind: e.kind,
-        name: e.name,
-        first,
-        second,
-        grade: e.grade,
-    }
-}
-
 // The entries of a table, each folded onto those before it, and 0 behind them.
 pub fn widen(table: &[u8]) -> [u64; 64]
-    requires { ⌜ size (now table) ≤ 64 ⌝ }
+    requires { ⌜ (size (now table) ≤ 64) × WellFormed (entryAt (now table)) (size (now table)) ⌝ }
     ensures { λ r. ⌜ Widened (now (table .entry)) (size (now (table .entry))) r ⌝ }
 {
     let n = table.len() / 4;

@@ -18,13 +18,13 @@ abbrev μ-loop : tie.MeasureT-loop
 μ-loop table n words₀ i₀ words i = n - i
 
 folded-requires : tie.Need-folded-requires Inv-loop μ-loop
-folded-requires c κs = rw (c .before .entry-at .ensures) (packed-fits _ _)
+folded-requires c κs = (rw (c .before .entry-at .ensures) (packed-fits _ _), c .before .before .before .loop .inv .2 .formed)
 
 loop-again : tie.Need-loop-again Inv-loop μ-loop
 loop-again c =
     let l = c .before .before .before .before .before .loop in
     let e = rw (c .before .before .before .entry-at .ensures) at (c .before .folded .ensures .0) in
-    (search needs, simp length-set (l .inv .1), rw add-one (widened-next (l .inv .2) _ (omega arith) (rw (c .pack .ensures) e)))
+    (search needs, simp length-set (l .inv .1), rw add-one (widened-next (λ i h. c .before .before .before .before .before .before .before .pre .1 i (omega arith)) (l .inv .2) _ (omega arith) (rw (c .pack .ensures) e)))
 
 returns : tie.Need-returns Inv-loop μ-loop
 returns c =

@@ -6,6 +6,7 @@ use lib.Seq.{length-take-le}
 use borrow.Author.Needs.{needs}
 use Rattle.table.specs.Entry.{size}
 use Rattle.table.specs.Space.{tableWork}
+use Rattle.table.proofs.Accepted.{accepted}
 use Prim.Native.Nat.{_/_}
 use Rattle.wide.specs.Wide.{wideAt}
 use Rattle.satisfy.proofs.Calls.{room-kept}
@@ -19,7 +20,7 @@ work-words-requires : tie.Need-work-words-requires
 work-words-requires c κs = (accepted-small _ (c .before .before .pre .accepted), omega arith)
 
 widen-requires : tie.Need-widen-requires
-widen-requires c κs = accepted-small _ (c .before .before .before .pre .accepted)
+widen-requires c κs = let ok = c .before .before .before .pre .accepted in (accepted-small _ ok, accepted _ ok)
 
 mul-forget : tie.Need-mul-forget
 mul-forget c = record { fits = rw (c .before .before .work-words .ensures) (from-fits (sets-room (c .before .before .before .before .before .args .table .now) (c .before .widen .result) (c .before .before .before .before .before .pre) (c .before .widen .ensures)) (omega (arith, c .before .before .before .before .before .good .1 .1 .1 .1 .0))) }

@@ -4,8 +4,8 @@ use Prim.Native.Nat.{_-_, _≤_}
 use native.Mathlib.Nat.{le-refl}
 use native.Mathlib.Omega.{arith}
 use borrow.Author.Needs.{needs}
-use Rattle.wide.proofs.first_like.Statement.{statement}
-use Rattle.wide.proofs.first_like.Tie as tie
+use Rattle.wide.proofs.fold.first_like.Statement.{statement}
+use Rattle.wide.proofs.fold.first_like.Tie as tie
 
 abbrev Inv-loop : tie.InvT-loop
 Inv-loop words r word j₀ j = j ≤ r
