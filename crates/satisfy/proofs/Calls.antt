@@ -18,7 +18,7 @@ use Rattle.sets.specs.Word.{Greatest}
 use Rattle.table.specs.declared.entry.Entry.{Entry}
 use Rattle.table.specs.Formulas.{depthAt}
 use Rattle.table.proofs.Accepted.{depth-rule}
-use Rattle.tableau.specs.Wants.{Answers, wanted}
+use Rattle.tableau.specs.Wants.{Answers, wanted, rule}
 use Rattle.tableau.specs.Counting.{bound, need, speaks, Feasible, Solution}
 use Rattle.tableau.specs.Search.{Problem, asking, Fit}
 use Rattle.tableau.proofs.Tests.{one-of, both-parts}
@@ -112,6 +112,11 @@ module _ {entry : ℕ → Entry} {n : ℕ} {w : Wants} {b depth : ℕ} (ready : 
         within = λ i h. h;
         shallow = rw (same, own .yes, own .no) (ready .shallow);
       }
+
+  -- none of them is "not at least 0": that has been found to clash
+  pub question-positive : (i : ℕ) → member (q .no) i ≡ true → entry i .kind ≡ 6 → entry i .grade ≡ 0 → ⊥
+  unfolding rule
+  question-positive i want kind grade = false≢true (rw (kind, grade) at (ready .settled .treated false i (rw (own .no) at want)))
 
 -- what is done is fewer
 pub count-done : (p all : ℕ → Bool) {k n : ℕ} → p k ≡ true → all k ≡ true → k < n → count (butNot p all) n < count p n

@@ -3,13 +3,13 @@
 use mathlib.Core.Path.{_≡_, refl, sym, ap, _∙_}
 use mathlib.Core.Logic.{⊎-elim, by-cases}
 use mathlib.Core.Bool.{Bool, true, false, not, _||_, false≢true}
-use mathlib.Core.List.{List}
+use mathlib.Core.List.{List, _++_}
 use Prim.Native.Nat.{ℕ, suc, _+_, _-_, _*_, _<_, _≤_, zero-le}
 use native.Mathlib.Nat.{suc-mul}
 use native.Mathlib.Decide.{ℕ-discrete}
 use native.Mathlib.Omega.{arith}
-use lib.ListN.{getD, take}
-use lib.Seq.{getD-take, take-take}
+use lib.ListN.{length, getD, take, drop}
+use lib.Seq.{getD-take, take-take, take-at}
 use lib.Dec.{eqb}
 use borrow.Author.Tests.{eqb-true, eq-eqb, ne-eqb}
 use Rattle.sets.specs.declared.Set.{Set}
@@ -27,6 +27,7 @@ use Rattle.counting.specs.declared.question.Question.{Question}
 use Rattle.counting.specs.Question.{problemOf, NoNeed, Closed}
 use Rattle.listed.specs.Codes.{codesFrom, Inside}
 use Rattle.listed.proofs.Codes.{codes-alike}
+use Rattle.selection.specs.Relaxing.{SameBelow}
 use Rattle.satisfy.specs.declared.listing.Listing.{Listing}
 use Rattle.satisfy.specs.Asking.{listRoom, Roomy, Remembers}
 use Rattle.satisfy.specs.Listing.{Placed, listOf, AlsoIs, Unkept, Reaches, Lists, ListedMore, ListingIs, NarrowedIs}
@@ -94,6 +95,22 @@ module _ (n : ℕ) {k level : ℕ} (some : k ≤ listRoom n) (room : listRoom n 
 -- the words of the level are among those that are lent
 pub list-lent : (n k level reach : ℕ) (work : List ℕ) → k ≤ listRoom n → listRoom n ≤ level → level ≤ reach → listOf n level (take reach work) k ≡ listOf n level work k
 list-lent n k level reach work some room inside = list-kept n some room work (take reach work) (take-take level reach work inside)
+
+-- the words of all levels were lent, and the list is as before
+pub lists-lent : (P : Problem) {k level reach : ℕ} (work front : List ℕ) → listRoom (P .n) ≤ level → level ≤ reach → length front ≡ reach
+    → SameBelow (level - listRoom (P .n) + k) (take reach work) front → Lists P k level work → Lists P k level (front ++ drop reach work)
+lists-lent P {k} {level} {reach} work front room inside as-many same lists = record {
+  some = lists .some;
+  fit = λ b h. lists .fit b (rw (codes-alike work (front ++ drop reach work) (level - listRoom (P .n)) k alike) at h);
+}
+  where
+    alike : (j : ℕ) → j < k → getD (front ++ drop reach work) (level - listRoom (P .n) + j) 0 ≡ getD work (level - listRoom (P .n) + j) 0
+    alike j l =
+        let below : level - listRoom (P .n) + j < reach = omega (arith, lists .some) in
+        sym (getD-take reach (front ++ drop reach work) _ 0 below)
+        ∙ ap (λ (words : List ℕ). getD words (level - listRoom (P .n) + j) 0) (take-at front (drop reach work) reach as-many)
+        ∙ same .word _ (omega arith)
+        ∙ getD-take reach work _ 0 below
 
 module _ (P : Problem) where
   pub lists-kept : {k level : ℕ} → listRoom (P .n) ≤ level → (before after : List ℕ) → take level after ≡ take level before → Lists P k level before → Lists P k level after

@@ -108,7 +108,7 @@ counting-depth false true k x y is = rw is refl
 counting-depth false false k x y is = rw is refl
 
 module _ (P : Problem) (promises : ℕ → Bool) (depth : ℕ) (all : Promising P promises depth) where
-  named : (i : ℕ) → promises i ≡ true → eqb (P .entry i .name) (P .relation) ≡ true
+  pub named : (i : ℕ) → promises i ≡ true → eqb (P .entry i .name) (P .relation) ≡ true
   named i h = both-parts true (eqb (P .entry i .name) (P .relation)) _ (all .within i h) .0
 
   -- a promised entry is a counting entry that is wanted
@@ -123,16 +123,15 @@ module _ (P : Problem) (promises : ℕ → Bool) (depth : ℕ) (all : Promising 
   pub promise-below : (i : ℕ) → promises i ≡ true → i < P .n
   promise-below i h = let (b, c, want, k) = counting-of i h in all .below b i want
 
-  -- its part may be wanted besides, and is no deeper than allowed
-  pub part-asked : {v : Wants} → SettledW (P .entry) (P .n) v → (i : ℕ) → promises i ≡ true → Asked (P .entry) (P .n) (P .entry i .first) v
-  part-asked settled i h =
+  -- its part is an entry
+  pub part-below : (i : ℕ) → promises i ≡ true → P .entry i .first < P .n
+  part-below i h =
       let (b, c, want, k) = counting-of i h in
-      record {
-        formed = all .formed;
-        few = all .few;
-        settled = settled;
-        inside = omega (arith, all .below b i want, all .formed i (all .below b i want) .first (counting-uses b c _ k));
-      }
+      omega (arith, all .below b i want, all .formed i (all .below b i want) .first (counting-uses b c _ k))
+
+  -- that may be wanted besides, and is no deeper than allowed
+  pub part-asked : {v : Wants} → SettledW (P .entry) (P .n) v → (i : ℕ) → promises i ≡ true → Asked (P .entry) (P .n) (P .entry i .first) v
+  part-asked settled i h = record { formed = all .formed; few = all .few; settled = settled; inside = part-below i h }
 
   part-depth : (i : ℕ) → promises i ≡ true → depthAt (P .entry) (P .entry i .first) ≤ depth
   part-depth i h =

@@ -95,6 +95,11 @@ module _ (P : Problem) where
     pub room : Roomy (P .entry) (P .n) depth level (length work)
     pub memory : Remembers (P .entry) depth level work
 
+  -- the same, where none of the limits is "not at least 0", which no world meets
+  pub record RelationAsked (all : Set) (depth level : ℕ) (work : List ℕ) : Type 0 where
+    pub problem : ProblemAsked all depth level work
+    pub positive : (i : ℕ) → P .no i ≡ true → P .entry i .kind ≡ 6 → P .entry i .grade ≡ 0 → ⊥
+
   -- promises of needs and limits of the problem
   pub record PromisesAsked (promises : Set) (depth level : ℕ) (work : List ℕ) : Type 0 where
     pub promising : Promising P (member promises) (depth - 1)

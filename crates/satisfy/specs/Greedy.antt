@@ -25,8 +25,8 @@ module _ (P : Problem) where
     pub room : Roomy (P .entry) (P .n) depth level (length work)
     pub memory : Remembers (P .entry) depth level work
 
-  -- it was grown; the words of the level are as before
-  pub record GrownIs (low free : Set) (depth level : ℕ) (before after : List ℕ) (r : Set) : Type 0 where
+  -- a set was grown; the words of the level are as before
+  pub record GrownIs (depth level : ℕ) (before after : List ℕ) (r : Set) : Type 0 where
     pub promising : Promising P (member r) (depth - 1)
     pub fit : FitIfAny r
     pub same : take level after ≡ take level before

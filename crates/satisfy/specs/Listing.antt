@@ -1,4 +1,4 @@
--- The list of the largest sets of promises that can be kept, in the last words of a level.
+-- Lists of sets of promises that can be kept, in the last words of a level: all the largest, or some.
 use mathlib.Core.Path.{_≡_}
 use mathlib.Core.Bool.{Bool, true}
 use mathlib.Core.List.{List}
@@ -8,10 +8,11 @@ use Rattle.sets.specs.declared.Set.{Set}
 use Rattle.sets.specs.Set.{member, both, either, Within}
 use Rattle.tableau.specs.Counting.{Row}
 use Rattle.tableau.specs.Search.{Problem, asking, Asks, FitRow, Fit, Solvable}
-use Rattle.tableau.specs.Listed.{In, Covers}
+use Rattle.tableau.specs.Listed.{In}
 use Rattle.counting.specs.declared.question.Question.{Question}
 use Rattle.counting.specs.Question.{Small}
 use Rattle.listed.specs.Codes.{codesFrom, Inside, Appended}
+use Rattle.satisfy.specs.declared.listing.Guess.{Guess}
 use Rattle.satisfy.specs.declared.listing.Listing.{Listing}
 use Rattle.satisfy.specs.declared.listing.Said.{Said}
 use Rattle.satisfy.specs.Promise.{Promising}
@@ -89,21 +90,32 @@ module _ (P : Problem) where
     pub same : take level after ≡ take level before
     pub memory : Remembers (P .entry) depth level after
 
-  -- a solution is asked for where k listed sets stand for all
+  -- a solution is asked for among k listed sets
   pub record SelectAsked (all : Set) (k depth level : ℕ) (work : List ℕ) : Type 0 where
     pub problem : Small P
     pub all-asking : member all ≡ asking P
     pub deep : 0 < depth
     pub room : Roomy (P .entry) (P .n) depth level (length work)
     pub memory : Remembers (P .entry) depth level work
-    pub some : k ≤ listRoom (P .n)
-    pub covers : Covers P (listOf (P .n) level work k)
+    pub lists : Lists k level work
 
-  -- the list is asked for weights, which only say what to try next
-  pub record WeighAsked (depth level : ℕ) (work : List ℕ) : Type 0 where
+  -- weights are asked for that refute k listed sets
+  pub record WeighAsked (k depth level : ℕ) (work : List ℕ) : Type 0 where
     pub problem : Small P
     pub room : Roomy (P .entry) (P .n) depth level (length work)
     pub memory : Remembers (P .entry) depth level work
+    pub lists : Lists k level work
+
+  -- k fit sets are listed; the weights only say what to try next
+  pub record WeighsIs (k depth level : ℕ) (after : List ℕ) : Type 0 where
+    pub lists : Lists k level after
+    pub memory : Remembers (P .entry) depth level after
+
+  -- sets that are listed are fit; of the entries that are guessed to have no solution nothing is promised
+  abbrev pub GuessIs : (depth level : ℕ) → List ℕ → Guess → Type 0
+  GuessIs depth level after (Guess.Among k) = WeighsIs k depth level after
+  GuessIs depth level after (Guess.Without s) = Remembers (P .entry) depth level after
+  GuessIs depth level after Guess.Nothing = Remembers (P .entry) depth level after
 
   -- what a list says of the problem
   abbrev pub SaidIs : Said → Type 0

@@ -1,4 +1,4 @@
--- What the promises of a successor come to, as wants at its world.
+-- What the promises of a successor come to: as wants at its world, and as the parts that are true or false there.
 use mathlib.Core.Path.{_≡_}
 use mathlib.Core.Bool.{Bool, true, false}
 use Prim.Native.Nat.{ℕ, suc, _<_, _≤_}
@@ -71,3 +71,12 @@ module _ (P : Problem) where
   abbrev pub PromisedIs : (ℕ → Bool) → ℕ → Outcome → Type 0
   PromisedIs promises depth (Outcome.Settled v) = Promised promises depth v
   PromisedIs promises depth Outcome.Clash = Feasible (P .entry) (P .yes) (P .no) promises → ⊥
+
+  -- entry j is the part of a promised need (c true), or of a promised limit (c false)
+  abbrev pub HasPart : (promises : ℕ → Bool) (c : Bool) → ℕ → Type 0
+  HasPart promises c j = (i : ℕ) × (promises i ≡ true) × (bound (P .yes) (P .no) (P .entry i) i c ≡ true) × (P .entry i .first ≡ j)
+
+  -- the parts of the promised needs (c true), or of the promised limits (c false)
+  pub record PartsOf (promises : ℕ → Bool) (c : Bool) (parts : ℕ → Bool) : Type 0 where
+    pub every : (i : ℕ) → promises i ≡ true → bound (P .yes) (P .no) (P .entry i) i c ≡ true → parts (P .entry i .first) ≡ true
+    pub only : (j : ℕ) → parts j ≡ true → HasPart promises c j

@@ -1,5 +1,5 @@
-// The list of the largest sets of promises that can be kept: where it stands in the words of a level, whether a set is
-// inside a listed one, and one more.
+// A list of sets of promises that can be kept: where it stands in the words of a level, whether a set is inside a listed one,
+// one more, whether they give a solution, and what weights that refute that are worth to other sets.
 ghost use mathlib.Core.Path.{_≡_};
 ghost use mathlib.Core.Bool.{true};
 ghost use Prim.Native.Nat.{_-_, _≤_};
@@ -7,15 +7,16 @@ ghost use lib.ListN.{length};
 ghost use Rattle.sets.specs.Set.{member, code, Within};
 ghost use Rattle.listed.specs.Codes.{Inside};
 ghost use Rattle.wide.specs.Wide.{wideAt};
-ghost use Rattle.tableau.specs.Wants.{Answers};
-ghost use Rattle.tableau.specs.Search.{Solvable};
 ghost use Rattle.counting.specs.Question.{problemOf};
+ghost use Rattle.selection.specs.Selecting.{SolvedIs};
 ghost use Rattle.satisfy.specs.Asking.{listRoom, Remembers};
-ghost use Rattle.satisfy.specs.Listing.{Placed, listOf, AlsoIs, SelectAsked, WeighAsked, NarrowedIs};
+ghost use Rattle.satisfy.specs.Listing.{Placed, listOf, AlsoIs, SelectAsked, WeighAsked, WeighsIs, NarrowedIs};
 use counting::question::Question;
 use listed::append;
 use listed::covered;
-use selection::relaxing::support;
+use selection::pricing::Prices;
+use selection::pricing::prices_from;
+use selection::relaxing::weights;
 use selection::solved;
 use sets::Highest;
 use sets::Set;
@@ -26,13 +27,23 @@ pub enum Listing {
     Full,
 }
 
+// Where a solution may be looked for.
+pub enum Guess {
+    // Among so many listed sets.
+    Among(usize),
+    // Nowhere, if these entries alone have none.
+    Without(Set),
+    // There was no room for more sets.
+    Nothing,
+}
+
 // What a list says of a problem.
 pub enum Said {
     // It has a solution.
     Yes,
     // It has none.
     No,
-    // The list had no room.
+    // The list had no room, or does not stand for all sets.
     Nothing,
 }
 
@@ -65,7 +76,7 @@ pub fn also(entries: &[u64], set: Set, k: usize, level: usize, work: &mut [u64])
     Listing::Room(k + 1)
 }
 
-// Whether there is a solution, where k listed sets stand for all.
+// Whether k listed sets give a solution.
 pub fn selected(
     entries: &[u64],
     q: Question,
@@ -76,7 +87,8 @@ pub fn selected(
     work: &mut [u64],
 ) -> bool
     requires { ⌜ SelectAsked (problemOf (now entries) q) all k depth level (now work) ⌝ }
-    ensures { λ r. ⌜ Answers r (Solvable (problemOf (now (entries .entry)) q)) × Remembers (wideAt (now (entries .entry))) depth level (now (work .exit)) ⌝ }
+    ensures { λ r. ⌜ SolvedIs (problemOf (now (entries .entry)) q) (listOf (length (now (entries .entry))) level (now (work .entry)) k) r
+        × Remembers (wideAt (now (entries .entry))) depth level (now (work .exit)) ⌝ }
 {
     let at = place(entries.len(), level);
     let reach = (depth + 1) * level;
@@ -93,16 +105,35 @@ pub fn highest_of(set: Set) -> Set
     set.minus(set.without(i))
 }
 
-// The entries that weights on the first sets of a full list speak of: what to try next. Nothing is promised of them, and the
-// words of the other sets are free for the weights to be found in.
-pub fn weighed(entries: &[u64], q: Question, depth: usize, level: usize, work: &mut [u64]) -> Set
-    requires { ⌜ WeighAsked (problemOf (now entries) q) depth level (now work) ⌝ }
-    ensures { λ r. ⌜ Remembers (wideAt (now (entries .entry))) depth level (now (work .exit)) ⌝ }
+// Whether weights are found that refute that k listed sets give a solution: they stand in the words behind the list then.
+pub fn weighs(
+    entries: &[u64],
+    q: Question,
+    k: usize,
+    depth: usize,
+    level: usize,
+    work: &mut [u64],
+) -> bool
+    requires { ⌜ WeighAsked (problemOf (now entries) q) k depth level (now work) ⌝ }
+    ensures { λ r. ⌜ WeighsIs (problemOf (now (entries .entry)) q) k depth level (now (work .exit)) ⌝ }
 {
-    let n = entries.len();
-    let at = place(n, level);
+    let at = place(entries.len(), level);
     let reach = (depth + 1) * level;
-    support(entries, q, &mut work[..reach], at, 2 * n)
+    weights(entries, q, &mut work[..reach], at, k)
+}
+
+// What they are worth. Nothing is promised of that: it says what to try next.
+pub fn prices_behind(entries: &[u64], q: Question, k: usize, level: usize, work: &[u64]) -> Prices
+    requires { ⌜ Placed (length (now entries)) k level (length (now work)) ⌝ }
+{
+    let at = place(entries.len(), level);
+    prices_from(entries, q, work, at + k)
+}
+
+// Whether all the largest sets are likely to be listed soon: there are few promises, and no successor counts further, so
+// that it costs little to ask whether it can be had.
+pub fn is_short(all: Set, depth: usize) -> bool {
+    depth == 1 && all.len() <= 12
 }
 
 // The question of the entries in a set alone.

@@ -1,17 +1,19 @@
-// What the promises of a successor come to, as wants at its world.
+// What the promises of a successor come to: as wants at its world, and as the parts that are true or false there.
 ghost use lib.ListN.{length};
 ghost use mathlib.Core.Path.{_≡_};
 ghost use Prim.Native.Nat.{_<_};
 ghost use Rattle.sets.specs.Set.{member, nothing, added};
 ghost use Rattle.wide.specs.Wide.{wideAt};
+ghost use Rattle.tableau.specs.Wants.{addedIf};
 ghost use Rattle.counting.specs.Question.{problemOf, asks};
 ghost use Rattle.wants.specs.Outcome.{Asked};
-ghost use Rattle.satisfy.specs.Promise.{AllIs, onlyIf, PartIs, Promising, PromisedIs};
+ghost use Rattle.satisfy.specs.Promise.{AllIs, onlyIf, PartIs, Promising, PromisedIs, PartsOf};
 use crate::branch::want;
 use counting::question::Question;
 use counting::question::asks;
 use sets::Highest;
 use sets::Set;
+use table::entry::Entry;
 use wants::Outcome;
 use wants::Wants;
 use wide::wide_at;
@@ -70,6 +72,35 @@ pub fn promised(entries: &[u64], q: Question, promises: Set, depth: usize) -> Ou
             return Outcome::Clash;
         };
         v = u;
+        rest = rest.without(i);
+    }
+}
+
+// The set with the part of entry i, if that is a need, or else a limit.
+fn with_part(found: Set, e: Entry, q: Question, i: usize, need: bool) -> Set
+    requires { ⌜ e .first < 64 ⌝ }
+    ensures { λ r. ⌜ member r ≡ addedIf (asks q e i need) (member found) (e .first) ⌝ }
+{
+    let first = e.first as usize;
+    if asks(e, q, i, need) {
+        found.with(first)
+    } else {
+        found
+    }
+}
+
+// The parts that a successor has to make true (of promised needs), or else false (of promised limits), to keep the promises of a set.
+pub fn parts(entries: &[u64], q: Question, promises: Set, need: bool, depth: usize) -> Set
+    requires { ⌜ Promising (problemOf (now entries) q) (member promises) depth ⌝ }
+    ensures { λ r. ⌜ PartsOf (problemOf (now (entries .entry)) q) (member promises) need (member r) ⌝ }
+{
+    let mut found = Set::empty();
+    let mut rest = promises;
+    loop {
+        let Highest::At(i) = rest.highest() else {
+            return found;
+        };
+        found = with_part(found, wide_at(entries, i), q, i, need);
         rest = rest.without(i);
     }
 }

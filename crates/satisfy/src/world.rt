@@ -11,20 +11,24 @@ ghost use Rattle.tableau.specs.Wants.{Answers};
 ghost use Rattle.tableau.specs.Search.{Solvable};
 ghost use Rattle.counting.specs.Question.{problemOf};
 ghost use Rattle.satisfy.specs.World.{SatW};
-ghost use Rattle.satisfy.specs.Asking.{WorldAsked, CaseAsked, CaseAnswers, CountAsked, CountAnswers, ProblemAsked, PromisesAsked, NextAsked, Kept, Opposed, Had, Remembers};
+ghost use Rattle.satisfy.specs.Asking.{WorldAsked, CaseAsked, CaseAnswers, CountAsked, CountAnswers, RelationAsked, ProblemAsked, PromisesAsked, NextAsked, Kept, Opposed, Had, Remembers};
 ghost use Rattle.satisfy.specs.Greedy.{GrowAsked, GrownIs, GreedyIs};
-ghost use Rattle.satisfy.specs.Listing.{ListAsked, BranchAsked, ListingIs, CoreAsked, CoreIs, SaidIs};
+ghost use Rattle.satisfy.specs.Listing.{ListAsked, BranchAsked, ListingIs, CoreAsked, CoreIs, SaidIs, GuessIs};
 use crate::branch::branch;
 use crate::force::force;
+use crate::listing::Guess;
 use crate::listing::Listing;
 use crate::listing::Said;
 use crate::listing::also;
 use crate::listing::highest_of;
+use crate::listing::is_short;
 use crate::listing::known;
 use crate::listing::narrowed;
+use crate::listing::prices_behind;
 use crate::listing::selected;
-use crate::listing::weighed;
+use crate::listing::weighs;
 use crate::promise::pair;
+use crate::promise::parts;
 use crate::promise::promised;
 use crate::relation::counted;
 use crate::relation::question_of;
@@ -46,6 +50,11 @@ use counting::take;
 use memory::Remembered;
 use memory::recall;
 use memory::remember;
+use selection::pricing::Prices;
+use selection::pricing::flat;
+use selection::pricing::heaviest;
+use selection::pricing::pays;
+use selection::pricing::weighted;
 use sets::Highest;
 use sets::Set;
 use wants::Outcome;
@@ -148,15 +157,41 @@ fn relations(entries: &[u64], w: Wants, depth: usize, level: usize, work: &mut [
         };
         let q = question_of(entries, w, i);
         let all = asking(entries, q);
-        if !solve(entries, q, all, depth, level, work) {
+        if !relation(entries, q, all, depth, level, work) {
             return false;
         }
         rest = rest.minus(all);
     }
 }
 
-// Whether the needs and limits of a relation have a solution. If all promises can be kept together, they have; else the
-// largest sets of promises that can be kept are listed, and a solution is looked for among those.
+// Whether the needs and limits of a relation have a solution, unless the answer is known: that some world is as they alone
+// want it is the same question.
+fn relation(
+    entries: &[u64],
+    q: Question,
+    all: Set,
+    depth: usize,
+    level: usize,
+    work: &mut [u64],
+) -> bool
+    requires { ⌜ RelationAsked (problemOf (now entries) q) all depth level (now work) ⌝ }
+    ensures { λ r. ⌜ Answers r (Solvable (problemOf (now (entries .entry)) q)) × Remembers (wideAt (now (entries .entry))) depth level (now (work .exit)) ⌝ }
+{
+    let alone = narrowed(q, all);
+    let yes = alone.yes;
+    let no = alone.no;
+    let from = (depth + 1) * level;
+    if let Remembered::Answer(known) = recall(work, from, yes, no) {
+        return known;
+    }
+    let found = solve(entries, q, all, depth, level, work);
+    remember(work, from, yes, no, found);
+    found
+}
+
+// The same by looking for it. If all promises can be kept together, there is a solution; if a need and a limit exclude each
+// other, there is none. Then it is looked for greedily; then by a list of sets of promises, all the largest ones or a few that
+// weights ask for. Where neither says anything, the search asks as it goes.
 fn solve(
     entries: &[u64],
     q: Question,
@@ -177,10 +212,50 @@ fn solve(
     if greedy(entries, q, all, depth, level, work) {
         return true;
     }
-    match by_list(entries, q, all, depth, level, work) {
+    match by_lists(entries, q, all, depth, level, work) {
         Said::Yes => true,
         Said::No => false,
-        Said::Nothing => past_list(entries, q, all, depth, level, work),
+        Said::Nothing => by_asking(entries, q, all, depth, level, work),
+    }
+}
+
+// What the two ways to list sets say, the one that is likely to be shorter first.
+fn by_lists(
+    entries: &[u64],
+    q: Question,
+    all: Set,
+    depth: usize,
+    level: usize,
+    work: &mut [u64],
+) -> Said
+    requires { ⌜ ProblemAsked (problemOf (now entries) q) all depth level (now work) ⌝ }
+    ensures { λ r. ⌜ SaidIs (problemOf (now (entries .entry)) q) r × Remembers (wideAt (now (entries .entry))) depth level (now (work .exit)) ⌝ }
+{
+    let short = is_short(all, depth);
+    match said_by(entries, q, all, short, depth, level, work) {
+        Said::Yes => Said::Yes,
+        Said::No => Said::No,
+        Said::Nothing => said_by(entries, q, all, !short, depth, level, work),
+    }
+}
+
+// What the list of all the largest sets says, or else that of those that weights ask for.
+fn said_by(
+    entries: &[u64],
+    q: Question,
+    all: Set,
+    whole: bool,
+    depth: usize,
+    level: usize,
+    work: &mut [u64],
+) -> Said
+    requires { ⌜ ProblemAsked (problemOf (now entries) q) all depth level (now work) ⌝ }
+    ensures { λ r. ⌜ SaidIs (problemOf (now (entries .entry)) q) r × Remembers (wideAt (now (entries .entry))) depth level (now (work .exit)) ⌝ }
+{
+    if whole {
+        by_list(entries, q, all, depth, level, work)
+    } else {
+        by_columns(entries, q, all, depth, level, work)
     }
 }
 
@@ -209,24 +284,99 @@ fn by_list(
     }
 }
 
-// Whether there is a solution, where the list had no room. Weights that refute what was listed speak of few needs and limits;
-// if those alone have no solution, all have none. Else the search asks as it goes.
-fn past_list(
+// What a list of sets that weights ask for says. A solution among them is one. Weights that refute them, and that no other set
+// was found to stand against, speak of few needs and limits; if those alone have no solution, all have none.
+fn by_columns(
     entries: &[u64],
     q: Question,
     all: Set,
     depth: usize,
     level: usize,
     work: &mut [u64],
-) -> bool
+) -> Said
     requires { ⌜ ProblemAsked (problemOf (now entries) q) all depth level (now work) ⌝ }
-    ensures { λ r. ⌜ Answers r (Solvable (problemOf (now (entries .entry)) q)) × Remembers (wideAt (now (entries .entry))) depth level (now (work .exit)) ⌝ }
+    ensures { λ r. ⌜ SaidIs (problemOf (now (entries .entry)) q) r × Remembers (wideAt (now (entries .entry))) depth level (now (work .exit)) ⌝ }
 {
-    let p = narrowed(q, weighed(entries, q, depth, level, work));
-    if let Said::No = by_list(entries, p, asking(entries, p), depth, level, work) {
-        return false;
+    match columns(entries, q, all, depth, level, work) {
+        Guess::Among(k) => {
+            if selected(entries, q, all, k, depth, level, work) {
+                return Said::Yes;
+            }
+            Said::Nothing
+        }
+        Guess::Without(s) => {
+            let p = narrowed(q, s);
+            match by_list(entries, p, asking(entries, p), depth, level, work) {
+                Said::No => Said::No,
+                _ => Said::Nothing,
+            }
+        }
+        Guess::Nothing => Said::Nothing,
     }
-    by_asking(entries, q, all, depth, level, work)
+}
+
+// Lists sets, each of which stands against the weights that refute those before it: until there are no such weights, or no
+// set is found that stands against them.
+fn columns(
+    entries: &[u64],
+    q: Question,
+    all: Set,
+    depth: usize,
+    level: usize,
+    work: &mut [u64],
+) -> Guess
+    requires { ⌜ ProblemAsked (problemOf (now entries) q) all depth level (now work) ⌝ }
+    ensures { λ r. ⌜ GuessIs (problemOf (now (entries .entry)) q) depth level (now (work .exit)) r ⌝ }
+{
+    let mut k: usize = 0;
+    loop {
+        if !weighs(entries, q, k, depth, level, work) {
+            return Guess::Among(k);
+        }
+        let prices = prices_behind(entries, q, k, level, work);
+        let set = column(entries, q, all, prices, depth, level, work);
+        if !pays(prices, set) {
+            return Guess::Without(weighted(prices));
+        }
+        match also(entries, set, k, level, work) {
+            Listing::Room(more) => {
+                k = more;
+            }
+            Listing::Full => return Guess::Nothing,
+        }
+    }
+}
+
+// A set grown by the limits that allow none and then by what weighs most; if it does not pay, one that is grown from an entry
+// that weighs something, whichever pays first.
+fn column(
+    entries: &[u64],
+    q: Question,
+    all: Set,
+    prices: Prices,
+    depth: usize,
+    level: usize,
+    work: &mut [u64],
+) -> Set
+    requires { ⌜ ProblemAsked (problemOf (now entries) q) all depth level (now work) ⌝ }
+    ensures { λ r. ⌜ GrownIs (problemOf (now (entries .entry)) q) depth level (now (work .entry)) (now (work .exit)) r ⌝ }
+{
+    let base = closed(entries, q).intersection(all);
+    let low = grown(entries, q, Set::empty(), base, depth, level, work);
+    let mut set = grown_by(entries, q, low, all, prices, depth, level, work);
+    let mut rest = weighted(prices).intersection(all);
+    loop {
+        if pays(prices, set) {
+            return set;
+        }
+        let Highest::At(i) = rest.highest() else {
+            return set;
+        };
+        let others = rest.without(i);
+        let start = grown(entries, q, low, rest.minus(others), depth, level, work);
+        set = grown_by(entries, q, start, all, prices, depth, level, work);
+        rest = others;
+    }
 }
 
 // Whether a solution is found by serving one need after the other, each with a set that is grown as far as it can be kept:
@@ -281,12 +431,29 @@ fn grown(
     work: &mut [u64],
 ) -> Set
     requires { ⌜ GrowAsked (problemOf (now entries) q) low free depth level (now work) ⌝ }
-    ensures { λ r. ⌜ GrownIs (problemOf (now (entries .entry)) q) low free depth level (now (work .entry)) (now (work .exit)) r ⌝ }
+    ensures { λ r. ⌜ GrownIs (problemOf (now (entries .entry)) q) depth level (now (work .entry)) (now (work .exit)) r ⌝ }
+{
+    grown_by(entries, q, low, free, flat(), depth, level, work)
+}
+
+// The same, by those that weigh most first.
+fn grown_by(
+    entries: &[u64],
+    q: Question,
+    low: Set,
+    free: Set,
+    prices: Prices,
+    depth: usize,
+    level: usize,
+    work: &mut [u64],
+) -> Set
+    requires { ⌜ GrowAsked (problemOf (now entries) q) low free depth level (now work) ⌝ }
+    ensures { λ r. ⌜ GrownIs (problemOf (now (entries .entry)) q) depth level (now (work .entry)) (now (work .exit)) r ⌝ }
 {
     let mut set = low;
     let mut rest = free;
     loop {
-        let Highest::At(i) = rest.highest() else {
+        let Highest::At(i) = heaviest(prices, rest).highest() else {
             return set;
         };
         rest = rest.without(i);
@@ -421,7 +588,7 @@ fn core_of(
 }
 
 // Whether a need and a limit are found that exclude each other: the need asks for more than the limit allows, and no
-// successor keeps both promises. If there are but two promises, that has been asked.
+// successor keeps both promises.
 fn opposed(
     entries: &[u64],
     q: Question,
@@ -433,9 +600,6 @@ fn opposed(
     requires { ⌜ ProblemAsked (problemOf (now entries) q) all depth level (now work) ⌝ }
     ensures { λ r. ⌜ Opposed (problemOf (now (entries .entry)) q) depth level (now (work .entry)) (now (work .exit)) r ⌝ }
 {
-    if all.len() < 3 {
-        return false;
-    }
     let mut needs = all;
     let mut limits = all;
     loop {
@@ -459,8 +623,32 @@ fn opposed(
     }
 }
 
-// Whether some world keeps the promises of a set.
+// Whether some world keeps the promises of a set, unless the answer is known: that some world makes the promised parts true,
+// or false, is the same question.
 fn keeps(
+    entries: &[u64],
+    q: Question,
+    promises: Set,
+    depth: usize,
+    level: usize,
+    work: &mut [u64],
+) -> bool
+    requires { ⌜ PromisesAsked (problemOf (now entries) q) promises depth level (now work) ⌝ }
+    ensures { λ r. ⌜ Kept (problemOf (now (entries .entry)) q) promises depth level (now (work .entry)) (now (work .exit)) r ⌝ }
+{
+    let yes = parts(entries, q, promises, true, depth - 1);
+    let no = parts(entries, q, promises, false, depth - 1);
+    let from = (depth + 1) * level;
+    if let Remembered::Answer(known) = recall(work, from, yes, no) {
+        return known;
+    }
+    let found = can_keep(entries, q, promises, depth, level, work);
+    remember(work, from, yes, no, found);
+    found
+}
+
+// The same by looking for one.
+fn can_keep(
     entries: &[u64],
     q: Question,
     promises: Set,

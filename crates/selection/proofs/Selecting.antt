@@ -9,8 +9,7 @@ use native.Mathlib.Numerals.{add-one}
 use native.Mathlib.Omega.{arith}
 use lib.ListN.{length, getD}
 use Rattle.sets.specs.declared.Set.{Set}
-use Rattle.tableau.specs.Wants.{Answers}
-use Rattle.tableau.specs.Search.{Slot, Problem, Met, Solvable, Extension}
+use Rattle.tableau.specs.Search.{Slot, Problem, Met, Extension}
 use Rattle.tableau.specs.Search.Choice.{done}
 use Rattle.tableau.proofs.Extend.{ext-done}
 use Rattle.tableau.proofs.Steps.{kept-none}
@@ -25,7 +24,7 @@ use Rattle.listed.proofs.Codes.{codes-alike}
 use Rattle.selection.specs.declared.relaxing.Relaxed.{Relaxed}
 use Rattle.selection.specs.Relaxing.{Relaxing, SameBelow, Seen}
 use Rattle.selection.proofs.Below.{slot-below}
-use Rattle.selection.specs.Selecting.{stackRoom, ListAsked, Selecting, Unchanged, Selected}
+use Rattle.selection.specs.Selecting.{stackRoom, ListAsked, SolvedIs, Selecting, Unchanged, Selected}
 
 -- ---- what stays as it is
 
@@ -129,7 +128,7 @@ module _ {P : Problem} {all : Set} {words : List ℕ} {at k : ℕ} (asked : List
     serving = tt;
   }
 
-  pub asked-answer : (r : Bool) {after : List ℕ} → Selected P words at k 0 r after → Answers r (Solvable P)
+  pub asked-answer : (r : Bool) {after : List ℕ} → Selected P words at k 0 r after → SolvedIs P (codesFrom words at k) r
   unfolding slotsOf
-  asked-answer true found = extension-found P (asked .problem .below) tt (asked .covers .fit) (found .answers)
-  asked-answer false found = λ known. found .answers (solvable-extension (codesFrom words at k) (asked .covers) known)
+  asked-answer true found = extension-found P (asked .problem .below) tt (asked .fit) (found .answers)
+  asked-answer false found = λ covers known. found .answers (solvable-extension (codesFrom words at k) covers known)

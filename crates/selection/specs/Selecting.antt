@@ -1,6 +1,6 @@
 -- What the search over a list of sets is given, and what it answers. The stack of slots stands in the first words, the codes of the list behind it.
 use mathlib.Core.Path.{_≡_}
-use mathlib.Core.Bool.{Bool}
+use mathlib.Core.Bool.{Bool, true, false}
 use mathlib.Core.List.{List, _∷_}
 use Prim.Native.Nat.{ℕ, _+_, _*_, _<_, _≤_}
 use lib.ListN.{length, getD}
@@ -8,8 +8,8 @@ use Rattle.table.specs.Space.{gradeSum}
 use Rattle.sets.specs.declared.Set.{Set}
 use Rattle.sets.specs.Set.{member}
 use Rattle.tableau.specs.Wants.{Answers}
-use Rattle.tableau.specs.Search.{Slot, taken, Problem, asking, Kept, Lacks, Serving, Extension}
-use Rattle.tableau.specs.Listed.{Covers}
+use Rattle.tableau.specs.Search.{Slot, taken, Problem, asking, Kept, Solvable, Fit, Lacks, Serving, Extension}
+use Rattle.tableau.specs.Listed.{In, Covers}
 use Rattle.counting.specs.Question.{Small}
 use Rattle.counting.specs.Stack.{slotAt, slotsOf, FewCopies}
 use Rattle.listed.specs.Codes.{codesFrom}
@@ -23,12 +23,17 @@ pub record Behind (P : Problem) (words : List ℕ) (at k : ℕ) : Type 0 where
   pub room : stackRoom P ≤ at
   pub inside : at + k ≤ length words
 
--- a list that stands for all sets, and nothing on the stack
+-- a list of fit sets, and nothing on the stack
 pub record ListAsked (P : Problem) (all : Set) (words : List ℕ) (at k : ℕ) : Type 0 where
   pub problem : Small P
   pub all-asking : member all ≡ asking P
   pub behind : Behind P words at k
-  pub covers : Covers P (codesFrom words at k)
+  pub fit : (b : ℕ) → In b (codesFrom words at k) → Fit P b
+
+-- yes: there is a solution; no: there is none, if the list stands for all sets
+abbrev pub SolvedIs : Problem → List ℕ → Bool → Type 0
+SolvedIs P list true = Solvable P
+SolvedIs P list false = Covers P list → Solvable P → ⊥
 
 -- so many slots are on the stack, and the k listed sets from a place on are yet to be taken
 pub record Selecting (P : Problem) (all : Set) (words : List ℕ) (at k slots : ℕ) : Type 0 where

@@ -4,12 +4,12 @@
 // the words behind them are there for the relaxation.
 ghost use Prim.Native.Nat.{suc, _<_, _≤_};
 ghost use lib.ListN.{length};
-ghost use Rattle.tableau.specs.Wants.{Answers};
-ghost use Rattle.tableau.specs.Search.{Solvable};
 ghost use Rattle.sets.specs.Set.{code};
 ghost use Rattle.counting.specs.Question.{problemOf};
-ghost use Rattle.selection.specs.Selecting.{ListAsked, Selecting, Varying, Swapped, Selected, Tried, Varied};
+ghost use Rattle.listed.specs.Codes.{codesFrom};
+ghost use Rattle.selection.specs.Selecting.{ListAsked, SolvedIs, Selecting, Varying, Swapped, Selected, Tried, Varied};
 
+pub mod pricing;
 pub mod relaxing;
 
 use counting::bounds;
@@ -29,7 +29,7 @@ pub fn solved(
     k: usize,
 ) -> bool
     requires { ⌜ ListAsked (problemOf (now entries) q) all (now words) at k ⌝ }
-    ensures { λ r. ⌜ Answers r (Solvable (problemOf (now (entries .entry)) q)) ⌝ }
+    ensures { λ r. ⌜ SolvedIs (problemOf (now (entries .entry)) q) (codesFrom (now (words .entry)) at k) r ⌝ }
 {
     select(entries, q, all, words, at, k, 0)
 }

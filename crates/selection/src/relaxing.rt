@@ -252,36 +252,22 @@ pub fn seen(
     checked(entries, q, words, at, k, slots, verdict)
 }
 
-// The numbers below 64 whose words from a place on are not 0.
-fn not_zero(words: &[u64], from: usize) -> Set
-    requires { ⌜ from + 64 ≤ length (now words) ⌝ }
-{
-    let mut found = Set::empty();
-    let mut i = 0;
-    while i < 64 {
-        if word_at(words, from + i) != 0 {
-            found = found.with(i);
-        }
-        i += 1;
-    }
-    found
-}
-
-// The entries whose weights refute that the k sets from a place on give a solution, if that is seen; else none. Nothing is
-// promised of them: sets that are not listed may still give one.
-pub fn support(entries: &[u64], q: Question, words: &mut [u64], at: usize, k: usize) -> Set
+// Whether weights are found that refute that the k sets from a place on give a solution. They stand in the 64 words behind
+// those then. Nothing is promised of them: sets that are not listed may still give one.
+pub fn weights(entries: &[u64], q: Question, words: &mut [u64], at: usize, k: usize) -> bool
     requires { ⌜ Relaxing (problemOf (now entries) q) (now words) at k 0 ⌝ }
+    ensures { λ r. ⌜ SameBelow (at + k) (now (words .entry)) (now (words .exit)) ⌝ }
 {
     let spare = words.len() - at - k;
     if spare <= 64 {
-        return Set::empty();
+        return false;
     }
     if spare - 64 <= k {
-        return Set::empty();
+        return false;
     }
     let verdict = found(entries, q, words, at, k, 0);
     match verdict {
-        Verdict::Weights(_) => not_zero(words, at + k),
-        _ => Set::empty(),
+        Verdict::Weights(_) => true,
+        _ => false,
     }
 }

@@ -45,3 +45,5 @@ pub mod Extension
 pub mod Weights
 -- the search step by step
 pub mod Searching
+-- the needs and limits of one relation alone
+pub mod Alone

@@ -1,12 +1,12 @@
 -- `selected` meets its contract: the words of all levels are lent to the search, and the answers behind them stay.
-use mathlib.Core.Path.{sym, _∙_}
-use Prim.Native.Nat.{_+_, _*_, _≤_}
+use mathlib.Core.Path.{_≡_, sym, _∙_}
+use Prim.Native.Nat.{_+_, _*_}
 use native.Mathlib.Nat.{suc-mul}
 use native.Mathlib.Omega.{arith}
-use lib.ListN.{length}
+use lib.ListN.{length, take}
 use lib.Seq.{length-front, length-take-le}
 use Rattle.wide.specs.Wide.{wideAt}
-use Rattle.satisfy.specs.Asking.{listRoom}
+use Rattle.satisfy.specs.Listing.{listOf}
 use Rattle.satisfy.proofs.Largest.{list-lent}
 use Rattle.satisfy.proofs.Recalling.{room-depth, from-fits, same-place, memory-levels}
 use Rattle.satisfy.proofs.listing.selected.Statement.{statement}
@@ -27,21 +27,25 @@ slice-relend-prefix-solved c = let a = c .before .before .before .args in omega 
 slice-aggregate-solved : tie.Need-slice-aggregate-solved
 slice-aggregate-solved c = let a = c .before .before .before .before .args in sym (length-take-le ((a .depth + 1) * a .level) (a .work .now) (slice-relend-prefix-solved (c .before)))
 
+-- the list, as it is lent
+lent-list : (c : tie.After-place) → listOf (length (c .before .before .before .args .entries .now)) (c .before .before .before .args .level) (take ((c .before .before .before .args .depth + 1) * c .before .before .before .args .level) (c .before .before .before .args .work .now)) (c .before .before .before .args .k)
+    ≡ listOf (length (c .before .before .before .args .entries .now)) (c .before .before .before .args .level) (c .before .before .before .args .work .now) (c .before .before .before .args .k)
+lent-list c =
+    let a = c .before .before .before .args in
+    let asked = c .before .before .before .pre in
+    list-lent (length (a .entries .now)) (a .k) (a .level) ((a .depth + 1) * a .level) (a .work .now) (asked .lists .some) (omega (arith, asked .room .stack)) (omega (arith, same-place (a .depth) (a .level), suc-mul (a .depth) (a .level)))
+
 solved-requires : tie.Need-solved-requires
 solved-requires c κs =
-    let a = c .before .before .before .before .args in
     let asked = c .before .before .before .before .pre in
-    let fits : listRoom (length (a .entries .now)) ≤ a .level = omega (arith, asked .room .stack) in
-    let inside : a .level ≤ (a .depth + 1) * a .level = omega (arith, same-place (a .depth) (a .level), suc-mul (a .depth) (a .level)) in
-    let list = list-lent (length (a .entries .now)) (a .k) (a .level) ((a .depth + 1) * a .level) (a .work .now) (asked .some) fits inside in
     record {
       problem = asked .problem;
       all-asking = asked .all-asking;
       behind = record {
         room = rw (c .before .place .ensures) (omega (arith, asked .room .stack));
-        inside = rw (c .before .place .ensures, ← (slice-aggregate-solved c)) (omega (arith, asked .some));
+        inside = rw (c .before .place .ensures, ← (slice-aggregate-solved c)) (omega (arith, asked .lists .some));
       };
-      covers = rw (c .before .place .ensures, list) (asked .covers);
+      fit = rw (c .before .place .ensures, lent-list (c .before)) (asked .lists .fit);
     }
 
 same-length : tie.Need-same-length
@@ -50,7 +54,7 @@ same-length c = let a = c .before .before .before .before .before .before .befor
 returns : tie.Need-returns
 returns c =
     let a = c .before .before .before .before .before .before .before .args in (
-      c .before .before .solved .ensures,
+      rw (c .before .before .before .before .place .ensures, lent-list (c .before .before .before .before)) at (c .before .before .solved .ensures),
       memory-levels (wideAt (a .entries .now)) (a .work .now) (c .before .before .solved .last .1 .1 .1 .0) (a .depth) (a .level) (c .before .before .solved .kept .1 .1 .1 .0 ∙ sym (slice-aggregate-solved (c .before .before .before))) (c .before .before .before .before .before .before .before .pre .memory),
     )
 

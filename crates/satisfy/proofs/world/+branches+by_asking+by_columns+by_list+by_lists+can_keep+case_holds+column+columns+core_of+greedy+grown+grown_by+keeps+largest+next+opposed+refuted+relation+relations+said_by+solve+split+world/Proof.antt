@@ -23,19 +23,20 @@ use Rattle.satisfy.proofs.Promises.{promising-fewer}
 use Rattle.satisfy.proofs.Pairs.{within-removed, chosen-below, pair-asked, pair-opposed}
 use Rattle.semantics.proofs.Count.{count-le}
 use Rattle.wants.proofs.Members.{count-removed}
-use Rattle.satisfy.proofs.Calls.{ready-leaf, ready-wider, ready-bounded, world-answer, promised-fit, counting-below, counting-deep, question-small, question-promising, count-done, room-kept, length-behind, own-solution, own-no-solution, own-asking, promised-unfit, within-same}
+use Rattle.satisfy.proofs.Calls.{ready-leaf, ready-wider, ready-bounded, world-answer, promised-fit, counting-below, counting-deep, question-small, question-promising, question-positive, count-done, room-kept, length-behind, own-solution, own-no-solution, own-asking, promised-unfit, within-same}
 use Rattle.satisfy.proofs.Recalling.{room-depth, from-fits, memory-from, memory-to, memory-below, memory-above, memory-over, next-same}
-use Rattle.sets.specs.Set.{removed, either}
+use Rattle.sets.specs.Set.{removed, either, nothing, code}
 use Rattle.counting.specs.Question.{Closed}
 use Rattle.tableau.proofs.Together.{together}
 use Rattle.satisfy.specs.Asking.{listRoom}
-use Rattle.satisfy.specs.Listing.{Unkept, ListedMore, listOf}
+use Rattle.satisfy.specs.Listing.{Unkept, Lists, ListedMore, ListingIs, listOf}
 use Rattle.satisfy.proofs.Promises.{promise-below}
 use Rattle.satisfy.proofs.Largest.{either-fewer, either-right, removed-fewer, moved-within, code-above, either-made, added-within, removed-within, unfit-unkept, room-placed, lists-kept, listing-same, listing-from, listing-also, reaches-none, reaches-known, listing-branch, core-had, reaches-unkept, listing-covers, lists-none, parts-within, parts-inside}
-use Rattle.tableau.specs.Search.{asking}
+use Rattle.tableau.specs.Search.{asking, Fit}
 use Rattle.tableau.proofs.Tests.{both-parts}
 use Rattle.satisfy.specs.Force.{Forced}
 use Rattle.satisfy.proofs.Forcing.{forced-answer}
+use mathlib.Core.Logic.{⊎-elim}
 use mathlib.Core.Logic._⊎_.{inl, inr}
 use native.Mathlib.Numerals.{add-one}
 use Rattle.table.specs.Space.{gradeSum}
@@ -47,59 +48,82 @@ use Rattle.satisfy.proofs.Greedy.{promising-of, taken-none, taken-below
 use Rattle.satisfy.proofs.Largest.{either-left, either-made, added-within}
 use Rattle.tableau.specs.Wants.{wanted}
 use Rattle.satisfy.proofs.Largest.{narrowed-fewer, narrowed-solvable}
+use Rattle.satisfy.proofs.Alone.{relation-recalled, relation-told}
+use Rattle.satisfy.proofs.Parts.{parts-fit, fit-parts}
 use borrow.Fn.Kinds.{In}
 use borrow.Fn.PlainCycle.{Measures, is, falls, and}
 use Rattle.satisfy.proofs.world.branches.Reads as branches
 use Rattle.satisfy.proofs.world.branches.Kinds as branches-kinds
-use Rattle.satisfy.proofs.world.+branches+by_asking+by_list+case_holds+core_of+greedy+grown+keeps+largest+next+opposed+past_list+refuted+relations+solve+split+world.Lts-branches as branches-lts
+use Rattle.satisfy.proofs.world.+branches+by_asking+by_columns+by_list+by_lists+can_keep+case_holds+column+columns+core_of+greedy+grown+grown_by+keeps+largest+next+opposed+refuted+relation+relations+said_by+solve+split+world.Lts-branches as branches-lts
 use Rattle.satisfy.proofs.world.by_asking.Reads as by-asking
 use Rattle.satisfy.proofs.world.by_asking.Kinds as by-asking-kinds
-use Rattle.satisfy.proofs.world.+branches+by_asking+by_list+case_holds+core_of+greedy+grown+keeps+largest+next+opposed+past_list+refuted+relations+solve+split+world.Lts-by_asking as by-asking-lts
+use Rattle.satisfy.proofs.world.+branches+by_asking+by_columns+by_list+by_lists+can_keep+case_holds+column+columns+core_of+greedy+grown+grown_by+keeps+largest+next+opposed+refuted+relation+relations+said_by+solve+split+world.Lts-by_asking as by-asking-lts
+use Rattle.satisfy.proofs.world.by_columns.Reads as by-columns
+use Rattle.satisfy.proofs.world.by_columns.Kinds as by-columns-kinds
+use Rattle.satisfy.proofs.world.+branches+by_asking+by_columns+by_list+by_lists+can_keep+case_holds+column+columns+core_of+greedy+grown+grown_by+keeps+largest+next+opposed+refuted+relation+relations+said_by+solve+split+world.Lts-by_columns as by-columns-lts
 use Rattle.satisfy.proofs.world.by_list.Reads as by-list
 use Rattle.satisfy.proofs.world.by_list.Kinds as by-list-kinds
-use Rattle.satisfy.proofs.world.+branches+by_asking+by_list+case_holds+core_of+greedy+grown+keeps+largest+next+opposed+past_list+refuted+relations+solve+split+world.Lts-by_list as by-list-lts
+use Rattle.satisfy.proofs.world.+branches+by_asking+by_columns+by_list+by_lists+can_keep+case_holds+column+columns+core_of+greedy+grown+grown_by+keeps+largest+next+opposed+refuted+relation+relations+said_by+solve+split+world.Lts-by_list as by-list-lts
+use Rattle.satisfy.proofs.world.by_lists.Reads as by-lists
+use Rattle.satisfy.proofs.world.by_lists.Kinds as by-lists-kinds
+use Rattle.satisfy.proofs.world.+branches+by_asking+by_columns+by_list+by_lists+can_keep+case_holds+column+columns+core_of+greedy+grown+grown_by+keeps+largest+next+opposed+refuted+relation+relations+said_by+solve+split+world.Lts-by_lists as by-lists-lts
+use Rattle.satisfy.proofs.world.can_keep.Reads as can-keep
+use Rattle.satisfy.proofs.world.can_keep.Kinds as can-keep-kinds
+use Rattle.satisfy.proofs.world.+branches+by_asking+by_columns+by_list+by_lists+can_keep+case_holds+column+columns+core_of+greedy+grown+grown_by+keeps+largest+next+opposed+refuted+relation+relations+said_by+solve+split+world.Lts-can_keep as can-keep-lts
 use Rattle.satisfy.proofs.world.case_holds.Reads as case-holds
 use Rattle.satisfy.proofs.world.case_holds.Kinds as case-holds-kinds
-use Rattle.satisfy.proofs.world.+branches+by_asking+by_list+case_holds+core_of+greedy+grown+keeps+largest+next+opposed+past_list+refuted+relations+solve+split+world.Lts-case_holds as case-holds-lts
+use Rattle.satisfy.proofs.world.+branches+by_asking+by_columns+by_list+by_lists+can_keep+case_holds+column+columns+core_of+greedy+grown+grown_by+keeps+largest+next+opposed+refuted+relation+relations+said_by+solve+split+world.Lts-case_holds as case-holds-lts
+use Rattle.satisfy.proofs.world.column.Reads as column
+use Rattle.satisfy.proofs.world.column.Kinds as column-kinds
+use Rattle.satisfy.proofs.world.+branches+by_asking+by_columns+by_list+by_lists+can_keep+case_holds+column+columns+core_of+greedy+grown+grown_by+keeps+largest+next+opposed+refuted+relation+relations+said_by+solve+split+world.Lts-column as column-lts
+use Rattle.satisfy.proofs.world.columns.Reads as columns
+use Rattle.satisfy.proofs.world.columns.Kinds as columns-kinds
+use Rattle.satisfy.proofs.world.+branches+by_asking+by_columns+by_list+by_lists+can_keep+case_holds+column+columns+core_of+greedy+grown+grown_by+keeps+largest+next+opposed+refuted+relation+relations+said_by+solve+split+world.Lts-columns as columns-lts
 use Rattle.satisfy.proofs.world.core_of.Reads as core-of
 use Rattle.satisfy.proofs.world.core_of.Kinds as core-of-kinds
-use Rattle.satisfy.proofs.world.+branches+by_asking+by_list+case_holds+core_of+greedy+grown+keeps+largest+next+opposed+past_list+refuted+relations+solve+split+world.Lts-core_of as core-of-lts
+use Rattle.satisfy.proofs.world.+branches+by_asking+by_columns+by_list+by_lists+can_keep+case_holds+column+columns+core_of+greedy+grown+grown_by+keeps+largest+next+opposed+refuted+relation+relations+said_by+solve+split+world.Lts-core_of as core-of-lts
 use Rattle.satisfy.proofs.world.greedy.Reads as greedy
 use Rattle.satisfy.proofs.world.greedy.Kinds as greedy-kinds
-use Rattle.satisfy.proofs.world.+branches+by_asking+by_list+case_holds+core_of+greedy+grown+keeps+largest+next+opposed+past_list+refuted+relations+solve+split+world.Lts-greedy as greedy-lts
+use Rattle.satisfy.proofs.world.+branches+by_asking+by_columns+by_list+by_lists+can_keep+case_holds+column+columns+core_of+greedy+grown+grown_by+keeps+largest+next+opposed+refuted+relation+relations+said_by+solve+split+world.Lts-greedy as greedy-lts
 use Rattle.satisfy.proofs.world.grown.Reads as grown
 use Rattle.satisfy.proofs.world.grown.Kinds as grown-kinds
-use Rattle.satisfy.proofs.world.+branches+by_asking+by_list+case_holds+core_of+greedy+grown+keeps+largest+next+opposed+past_list+refuted+relations+solve+split+world.Lts-grown as grown-lts
+use Rattle.satisfy.proofs.world.+branches+by_asking+by_columns+by_list+by_lists+can_keep+case_holds+column+columns+core_of+greedy+grown+grown_by+keeps+largest+next+opposed+refuted+relation+relations+said_by+solve+split+world.Lts-grown as grown-lts
+use Rattle.satisfy.proofs.world.grown_by.Reads as grown-by
+use Rattle.satisfy.proofs.world.grown_by.Kinds as grown-by-kinds
+use Rattle.satisfy.proofs.world.+branches+by_asking+by_columns+by_list+by_lists+can_keep+case_holds+column+columns+core_of+greedy+grown+grown_by+keeps+largest+next+opposed+refuted+relation+relations+said_by+solve+split+world.Lts-grown_by as grown-by-lts
 use Rattle.satisfy.proofs.world.keeps.Reads as keeps
 use Rattle.satisfy.proofs.world.keeps.Kinds as keeps-kinds
-use Rattle.satisfy.proofs.world.+branches+by_asking+by_list+case_holds+core_of+greedy+grown+keeps+largest+next+opposed+past_list+refuted+relations+solve+split+world.Lts-keeps as keeps-lts
+use Rattle.satisfy.proofs.world.+branches+by_asking+by_columns+by_list+by_lists+can_keep+case_holds+column+columns+core_of+greedy+grown+grown_by+keeps+largest+next+opposed+refuted+relation+relations+said_by+solve+split+world.Lts-keeps as keeps-lts
 use Rattle.satisfy.proofs.world.largest.Reads as largest
 use Rattle.satisfy.proofs.world.largest.Kinds as largest-kinds
-use Rattle.satisfy.proofs.world.+branches+by_asking+by_list+case_holds+core_of+greedy+grown+keeps+largest+next+opposed+past_list+refuted+relations+solve+split+world.Lts-largest as largest-lts
+use Rattle.satisfy.proofs.world.+branches+by_asking+by_columns+by_list+by_lists+can_keep+case_holds+column+columns+core_of+greedy+grown+grown_by+keeps+largest+next+opposed+refuted+relation+relations+said_by+solve+split+world.Lts-largest as largest-lts
 use Rattle.satisfy.proofs.world.next.Reads as next
 use Rattle.satisfy.proofs.world.next.Kinds as next-kinds
-use Rattle.satisfy.proofs.world.+branches+by_asking+by_list+case_holds+core_of+greedy+grown+keeps+largest+next+opposed+past_list+refuted+relations+solve+split+world.Lts-next as next-lts
+use Rattle.satisfy.proofs.world.+branches+by_asking+by_columns+by_list+by_lists+can_keep+case_holds+column+columns+core_of+greedy+grown+grown_by+keeps+largest+next+opposed+refuted+relation+relations+said_by+solve+split+world.Lts-next as next-lts
 use Rattle.satisfy.proofs.world.opposed.Reads as opposed
 use Rattle.satisfy.proofs.world.opposed.Kinds as opposed-kinds
-use Rattle.satisfy.proofs.world.+branches+by_asking+by_list+case_holds+core_of+greedy+grown+keeps+largest+next+opposed+past_list+refuted+relations+solve+split+world.Lts-opposed as opposed-lts
-use Rattle.satisfy.proofs.world.past_list.Reads as past-list
-use Rattle.satisfy.proofs.world.past_list.Kinds as past-list-kinds
-use Rattle.satisfy.proofs.world.+branches+by_asking+by_list+case_holds+core_of+greedy+grown+keeps+largest+next+opposed+past_list+refuted+relations+solve+split+world.Lts-past_list as past-list-lts
+use Rattle.satisfy.proofs.world.+branches+by_asking+by_columns+by_list+by_lists+can_keep+case_holds+column+columns+core_of+greedy+grown+grown_by+keeps+largest+next+opposed+refuted+relation+relations+said_by+solve+split+world.Lts-opposed as opposed-lts
 use Rattle.satisfy.proofs.world.refuted.Reads as refuted
 use Rattle.satisfy.proofs.world.refuted.Kinds as refuted-kinds
-use Rattle.satisfy.proofs.world.+branches+by_asking+by_list+case_holds+core_of+greedy+grown+keeps+largest+next+opposed+past_list+refuted+relations+solve+split+world.Lts-refuted as refuted-lts
+use Rattle.satisfy.proofs.world.+branches+by_asking+by_columns+by_list+by_lists+can_keep+case_holds+column+columns+core_of+greedy+grown+grown_by+keeps+largest+next+opposed+refuted+relation+relations+said_by+solve+split+world.Lts-refuted as refuted-lts
+use Rattle.satisfy.proofs.world.relation.Reads as relation
+use Rattle.satisfy.proofs.world.relation.Kinds as relation-kinds
+use Rattle.satisfy.proofs.world.+branches+by_asking+by_columns+by_list+by_lists+can_keep+case_holds+column+columns+core_of+greedy+grown+grown_by+keeps+largest+next+opposed+refuted+relation+relations+said_by+solve+split+world.Lts-relation as relation-lts
 use Rattle.satisfy.proofs.world.relations.Reads as relations
 use Rattle.satisfy.proofs.world.relations.Kinds as relations-kinds
-use Rattle.satisfy.proofs.world.+branches+by_asking+by_list+case_holds+core_of+greedy+grown+keeps+largest+next+opposed+past_list+refuted+relations+solve+split+world.Lts-relations as relations-lts
+use Rattle.satisfy.proofs.world.+branches+by_asking+by_columns+by_list+by_lists+can_keep+case_holds+column+columns+core_of+greedy+grown+grown_by+keeps+largest+next+opposed+refuted+relation+relations+said_by+solve+split+world.Lts-relations as relations-lts
+use Rattle.satisfy.proofs.world.said_by.Reads as said-by
+use Rattle.satisfy.proofs.world.said_by.Kinds as said-by-kinds
+use Rattle.satisfy.proofs.world.+branches+by_asking+by_columns+by_list+by_lists+can_keep+case_holds+column+columns+core_of+greedy+grown+grown_by+keeps+largest+next+opposed+refuted+relation+relations+said_by+solve+split+world.Lts-said_by as said-by-lts
 use Rattle.satisfy.proofs.world.solve.Reads as solve
 use Rattle.satisfy.proofs.world.solve.Kinds as solve-kinds
-use Rattle.satisfy.proofs.world.+branches+by_asking+by_list+case_holds+core_of+greedy+grown+keeps+largest+next+opposed+past_list+refuted+relations+solve+split+world.Lts-solve as solve-lts
+use Rattle.satisfy.proofs.world.+branches+by_asking+by_columns+by_list+by_lists+can_keep+case_holds+column+columns+core_of+greedy+grown+grown_by+keeps+largest+next+opposed+refuted+relation+relations+said_by+solve+split+world.Lts-solve as solve-lts
 use Rattle.satisfy.proofs.world.split.Reads as split
 use Rattle.satisfy.proofs.world.split.Kinds as split-kinds
-use Rattle.satisfy.proofs.world.+branches+by_asking+by_list+case_holds+core_of+greedy+grown+keeps+largest+next+opposed+past_list+refuted+relations+solve+split+world.Lts-split as split-lts
+use Rattle.satisfy.proofs.world.+branches+by_asking+by_columns+by_list+by_lists+can_keep+case_holds+column+columns+core_of+greedy+grown+grown_by+keeps+largest+next+opposed+refuted+relation+relations+said_by+solve+split+world.Lts-split as split-lts
 use Rattle.satisfy.proofs.world.world.Reads as world
 use Rattle.satisfy.proofs.world.world.Kinds as world-kinds
-use Rattle.satisfy.proofs.world.+branches+by_asking+by_list+case_holds+core_of+greedy+grown+keeps+largest+next+opposed+past_list+refuted+relations+solve+split+world.Lts-world as world-lts
+use Rattle.satisfy.proofs.world.+branches+by_asking+by_columns+by_list+by_lists+can_keep+case_holds+column+columns+core_of+greedy+grown+grown_by+keeps+largest+next+opposed+refuted+relation+relations+said_by+solve+split+world.Lts-world as world-lts
 use Rattle.counting.proofs.bounds.met.Reads as met-reads
 use Rattle.counting.proofs.bounds.unmet.Reads as unmet-reads
 use Rattle.counting.proofs.bounds.used_up.Reads as used-up-reads
@@ -122,47 +146,71 @@ use Rattle.satisfy.proofs.listing.highest_of.Reads as highest-of-reads
 use Rattle.satisfy.proofs.listing.known.Reads as known-reads
 use Rattle.satisfy.proofs.listing.narrowed.Reads as narrowed-reads
 use Rattle.satisfy.proofs.listing.selected.Reads as selected-reads
-use Rattle.satisfy.proofs.listing.weighed.Reads as weighed-reads
+use Rattle.satisfy.proofs.listing.weighs.Reads as weighs-reads
+use Rattle.satisfy.proofs.listing.prices_behind.Reads as prices-behind-reads
+use Rattle.satisfy.proofs.listing.is_short.Reads as is-short-reads
 use Rattle.satisfy.proofs.promise.pair.Reads as pair-reads
+use Rattle.satisfy.proofs.promise.parts.Reads as parts-reads
 use Rattle.satisfy.proofs.promise.promised.Reads as promised-reads
 use Rattle.satisfy.proofs.relation.counted.Reads as counted-reads
 use Rattle.satisfy.proofs.relation.question_of.Reads as question-of-reads
+use Rattle.selection.proofs.pricing.flat.Reads as flat-reads
+use Rattle.selection.proofs.pricing.heaviest.Reads as heaviest-reads
+use Rattle.selection.proofs.pricing.pays.Reads as pays-reads
+use Rattle.selection.proofs.pricing.weighted.Reads as weighted-reads
 use Rattle.sets.proofs.Set.empty.Reads as empty-reads
 use Rattle.sets.proofs.Set.highest.Reads as highest-reads
 use Rattle.sets.proofs.Set.intersection.Reads as intersection-reads
 use Rattle.sets.proofs.Set.is_empty.Reads as is-empty-reads
-use Rattle.sets.proofs.Set.len.Reads as len-reads
 use Rattle.sets.proofs.Set.minus.Reads as minus-reads
 use Rattle.sets.proofs.Set.union.Reads as union-reads
 use Rattle.sets.proofs.Set.with.Reads as with-reads
 use Rattle.sets.proofs.Set.without.Reads as without-reads
-use Rattle.satisfy.proofs.world.+branches+by_asking+by_list+case_holds+core_of+greedy+grown+keeps+largest+next+opposed+past_list+refuted+relations+solve+split+world.{statement}
-use Rattle.satisfy.proofs.world.+branches+by_asking+by_list+case_holds+core_of+greedy+grown+keeps+largest+next+opposed+past_list+refuted+relations+solve+split+world.Tie.{close}
+use Rattle.satisfy.proofs.world.+branches+by_asking+by_columns+by_list+by_lists+can_keep+case_holds+column+columns+core_of+greedy+grown+grown_by+keeps+largest+next+opposed+refuted+relation+relations+said_by+solve+split+world.{statement}
+use Rattle.satisfy.proofs.world.+branches+by_asking+by_columns+by_list+by_lists+can_keep+case_holds+column+columns+core_of+greedy+grown+grown_by+keeps+largest+next+opposed+refuted+relation+relations+said_by+solve+split+world.Tie.{close}
 
 -- The measure falls with the depth; within a world, with the bound on what is pending; and in a list, with the promises that are free.
 abbrev μ-branches : Measures 2 branches-kinds.ps ℕ
 μ-branches κs a = a .1 .1 .1 .1 .1 .1 .0 * 512 + (count (member (a .1 .1 .1 .0)) 64 + count (member (a .1 .1 .1 .0)) 64) + 4
 
 abbrev μ-by-asking : Measures 2 by-asking-kinds.ps ℕ
-μ-by-asking κs a = a .1 .1 .1 .0 * 512 + 3
+μ-by-asking κs a = a .1 .1 .1 .0 * 512 + 4
 
 abbrev μ-by-list : Measures 2 by-list-kinds.ps ℕ
 μ-by-list κs a = a .1 .1 .1 .0 * 512 + 141
 
+abbrev μ-by-columns : Measures 2 by-columns-kinds.ps ℕ
+μ-by-columns κs a = a .1 .1 .1 .0 * 512 + 142
+
+abbrev μ-by-lists : Measures 2 by-lists-kinds.ps ℕ
+μ-by-lists κs a = a .1 .1 .1 .0 * 512 + 144
+
 abbrev μ-case-holds : Measures 2 case-holds-kinds.ps ℕ
-μ-case-holds κs a = a .1 .1 .1 .1 .1 .0 * 512 + (a .1 .1 .0 + a .1 .1 .0 + a .1 .1 .0) + 148
+μ-case-holds κs a = a .1 .1 .1 .1 .1 .0 * 512 + (a .1 .1 .0 + a .1 .1 .0 + a .1 .1 .0) + 151
 
 abbrev μ-core-of : Measures 2 core-of-kinds.ps ℕ
-μ-core-of κs a = a .1 .1 .1 .1 .0 * 512 + 3
+μ-core-of κs a = a .1 .1 .1 .1 .0 * 512 + 4
 
 abbrev μ-greedy : Measures 2 greedy-kinds.ps ℕ
-μ-greedy κs a = a .1 .1 .1 .0 * 512 + 4
+μ-greedy κs a = a .1 .1 .1 .0 * 512 + 6
 
 abbrev μ-grown : Measures 2 grown-kinds.ps ℕ
-μ-grown κs a = a .1 .1 .1 .1 .0 * 512 + 3
+μ-grown κs a = a .1 .1 .1 .1 .0 * 512 + 5
+
+abbrev μ-grown-by : Measures 2 grown-by-kinds.ps ℕ
+μ-grown-by κs a = a .1 .1 .1 .1 .1 .0 * 512 + 4
+
+abbrev μ-column : Measures 2 column-kinds.ps ℕ
+μ-column κs a = a .1 .1 .1 .1 .0 * 512 + 6
+
+abbrev μ-columns : Measures 2 columns-kinds.ps ℕ
+μ-columns κs a = a .1 .1 .1 .0 * 512 + 7
 
 abbrev μ-keeps : Measures 2 keeps-kinds.ps ℕ
-μ-keeps κs a = a .1 .1 .1 .0 * 512 + 2
+μ-keeps κs a = a .1 .1 .1 .0 * 512 + 3
+
+abbrev μ-can-keep : Measures 2 can-keep-kinds.ps ℕ
+μ-can-keep κs a = a .1 .1 .1 .0 * 512 + 2
 
 abbrev μ-largest : Measures 2 largest-kinds.ps ℕ
 μ-largest κs a = a .1 .1 .1 .1 .1 .0 * 512 + (count (member (a .1 .1 .1 .0)) 64 + count (member (a .1 .1 .1 .0)) 64) + 5
@@ -171,25 +219,28 @@ abbrev μ-next : Measures 2 next-kinds.ps ℕ
 μ-next κs a = a .1 .1 .0 * 512 + 1
 
 abbrev μ-opposed : Measures 2 opposed-kinds.ps ℕ
-μ-opposed κs a = a .1 .1 .1 .0 * 512 + 3
-
-abbrev μ-past-list : Measures 2 past-list-kinds.ps ℕ
-μ-past-list κs a = a .1 .1 .1 .0 * 512 + 142
+μ-opposed κs a = a .1 .1 .1 .0 * 512 + 4
 
 abbrev μ-refuted : Measures 2 refuted-kinds.ps ℕ
-μ-refuted κs a = a .1 .1 .1 .0 * 512 + 145
+μ-refuted κs a = a .1 .1 .1 .0 * 512 + 148
 
 abbrev μ-relations : Measures 2 relations-kinds.ps ℕ
-μ-relations κs a = a .1 .1 .0 * 512 + 144
+μ-relations κs a = a .1 .1 .0 * 512 + 147
+
+abbrev μ-relation : Measures 2 relation-kinds.ps ℕ
+μ-relation κs a = a .1 .1 .1 .0 * 512 + 146
+
+abbrev μ-said-by : Measures 2 said-by-kinds.ps ℕ
+μ-said-by κs a = a .1 .1 .1 .1 .0 * 512 + 143
 
 abbrev μ-solve : Measures 2 solve-kinds.ps ℕ
-μ-solve κs a = a .1 .1 .1 .0 * 512 + 143
+μ-solve κs a = a .1 .1 .1 .0 * 512 + 145
 
 abbrev μ-split : Measures 2 split-kinds.ps ℕ
-μ-split κs a = a .1 .1 .1 .1 .0 * 512 + (a .1 .1 .0 + a .1 .1 .0 + a .1 .1 .0) + 146
+μ-split κs a = a .1 .1 .1 .1 .0 * 512 + (a .1 .1 .0 + a .1 .1 .0 + a .1 .1 .0) + 149
 
 abbrev μ-world : Measures 2 world-kinds.ps ℕ
-μ-world κs a = a .1 .1 .1 .1 .0 * 512 + (a .1 .1 .0 + a .1 .1 .0 + a .1 .1 .0) + 147
+μ-world κs a = a .1 .1 .1 .1 .0 * 512 + (a .1 .1 .0 + a .1 .1 .0 + a .1 .1 .0) + 150
 
 abbrev branches-at : ℕ → In 2 branches-kinds.ps
 branches-at t = and 2 branches-kinds.ps (is 2 branches-kinds.ps μ-branches t) branches.Pre
@@ -261,12 +312,53 @@ opposed-at t = and 2 opposed-kinds.ps (is 2 opposed-kinds.ps μ-opposed t) oppos
 abbrev opposed-below : ℕ → In 2 opposed-kinds.ps
 opposed-below t = and 2 opposed-kinds.ps (falls 2 opposed-kinds.ps _<_ μ-opposed t) opposed.Pre
 
-abbrev past-list-at : ℕ → In 2 past-list-kinds.ps
-past-list-at t = and 2 past-list-kinds.ps (is 2 past-list-kinds.ps μ-past-list t) past-list.Pre
+abbrev by-columns-at : ℕ → In 2 by-columns-kinds.ps
+by-columns-at t = and 2 by-columns-kinds.ps (is 2 by-columns-kinds.ps μ-by-columns t) by-columns.Pre
 
-abbrev past-list-below : ℕ → In 2 past-list-kinds.ps
-past-list-below t =
-    and 2 past-list-kinds.ps (falls 2 past-list-kinds.ps _<_ μ-past-list t) past-list.Pre
+abbrev by-columns-below : ℕ → In 2 by-columns-kinds.ps
+by-columns-below t = and 2 by-columns-kinds.ps (falls 2 by-columns-kinds.ps _<_ μ-by-columns t) by-columns.Pre
+
+abbrev by-lists-at : ℕ → In 2 by-lists-kinds.ps
+by-lists-at t = and 2 by-lists-kinds.ps (is 2 by-lists-kinds.ps μ-by-lists t) by-lists.Pre
+
+abbrev by-lists-below : ℕ → In 2 by-lists-kinds.ps
+by-lists-below t = and 2 by-lists-kinds.ps (falls 2 by-lists-kinds.ps _<_ μ-by-lists t) by-lists.Pre
+
+abbrev column-at : ℕ → In 2 column-kinds.ps
+column-at t = and 2 column-kinds.ps (is 2 column-kinds.ps μ-column t) column.Pre
+
+abbrev column-below : ℕ → In 2 column-kinds.ps
+column-below t = and 2 column-kinds.ps (falls 2 column-kinds.ps _<_ μ-column t) column.Pre
+
+abbrev columns-at : ℕ → In 2 columns-kinds.ps
+columns-at t = and 2 columns-kinds.ps (is 2 columns-kinds.ps μ-columns t) columns.Pre
+
+abbrev columns-below : ℕ → In 2 columns-kinds.ps
+columns-below t = and 2 columns-kinds.ps (falls 2 columns-kinds.ps _<_ μ-columns t) columns.Pre
+
+abbrev grown-by-at : ℕ → In 2 grown-by-kinds.ps
+grown-by-at t = and 2 grown-by-kinds.ps (is 2 grown-by-kinds.ps μ-grown-by t) grown-by.Pre
+
+abbrev grown-by-below : ℕ → In 2 grown-by-kinds.ps
+grown-by-below t = and 2 grown-by-kinds.ps (falls 2 grown-by-kinds.ps _<_ μ-grown-by t) grown-by.Pre
+
+abbrev relation-at : ℕ → In 2 relation-kinds.ps
+relation-at t = and 2 relation-kinds.ps (is 2 relation-kinds.ps μ-relation t) relation.Pre
+
+abbrev relation-below : ℕ → In 2 relation-kinds.ps
+relation-below t = and 2 relation-kinds.ps (falls 2 relation-kinds.ps _<_ μ-relation t) relation.Pre
+
+abbrev said-by-at : ℕ → In 2 said-by-kinds.ps
+said-by-at t = and 2 said-by-kinds.ps (is 2 said-by-kinds.ps μ-said-by t) said-by.Pre
+
+abbrev said-by-below : ℕ → In 2 said-by-kinds.ps
+said-by-below t = and 2 said-by-kinds.ps (falls 2 said-by-kinds.ps _<_ μ-said-by t) said-by.Pre
+
+abbrev can-keep-at : ℕ → In 2 can-keep-kinds.ps
+can-keep-at t = and 2 can-keep-kinds.ps (is 2 can-keep-kinds.ps μ-can-keep t) can-keep.Pre
+
+abbrev can-keep-below : ℕ → In 2 can-keep-kinds.ps
+can-keep-below t = and 2 can-keep-kinds.ps (falls 2 can-keep-kinds.ps _<_ μ-can-keep t) can-keep.Pre
 
 abbrev refuted-at : ℕ → In 2 refuted-kinds.ps
 refuted-at t = and 2 refuted-kinds.ps (is 2 refuted-kinds.ps μ-refuted t) refuted.Pre
@@ -326,10 +418,14 @@ greedy-calls t =
 
 abbrev grown-calls : ℕ → grown-lts.Claims
 grown-calls t =
-    (highest-reads.Asked, highest-reads.Learnt, without-reads.Asked, without-reads.Learnt, with-reads.Asked, with-reads.Learnt, keeps-below t, keeps.Post)
+    (flat-reads.Asked, flat-reads.Learnt, grown-by-below t, grown-by.Post)
 
 abbrev keeps-calls : ℕ → keeps-lts.Claims
 keeps-calls t =
+    (parts-reads.Asked, parts-reads.Learnt, recall-reads.Asked, recall-reads.Learnt, can-keep-below t, can-keep.Post, remember-reads.Asked, remember-reads.Learnt)
+
+abbrev can-keep-calls : ℕ → can-keep-lts.Claims
+can-keep-calls t =
     (promised-reads.Asked, promised-reads.Learnt, next-below t, next.Post)
 
 abbrev largest-calls : ℕ → largest-lts.Claims
@@ -342,11 +438,35 @@ next-calls t =
 
 abbrev opposed-calls : ℕ → opposed-lts.Claims
 opposed-calls t =
-    (len-reads.Asked, len-reads.Learnt, highest-reads.Asked, highest-reads.Learnt, without-reads.Asked, without-reads.Learnt, exceeds-reads.Asked, exceeds-reads.Learnt, pair-reads.Asked, pair-reads.Learnt, keeps-below t, keeps.Post)
+    (highest-reads.Asked, highest-reads.Learnt, without-reads.Asked, without-reads.Learnt, exceeds-reads.Asked, exceeds-reads.Learnt, pair-reads.Asked, pair-reads.Learnt, keeps-below t, keeps.Post)
 
-abbrev past-list-calls : ℕ → past-list-lts.Claims
-past-list-calls t =
-    (weighed-reads.Asked, weighed-reads.Learnt, narrowed-reads.Asked, narrowed-reads.Learnt, asking-reads.Asked, asking-reads.Learnt, by-list-below t, by-list.Post, by-asking-below t, by-asking.Post)
+abbrev by-columns-calls : ℕ → by-columns-lts.Claims
+by-columns-calls t =
+    (columns-below t, columns.Post, selected-reads.Asked, selected-reads.Learnt, narrowed-reads.Asked, narrowed-reads.Learnt, asking-reads.Asked, asking-reads.Learnt, by-list-below t, by-list.Post)
+
+abbrev by-lists-calls : ℕ → by-lists-lts.Claims
+by-lists-calls t =
+    (is-short-reads.Asked, is-short-reads.Learnt, said-by-below t, said-by.Post)
+
+abbrev column-calls : ℕ → column-lts.Claims
+column-calls t =
+    (closed-reads.Asked, closed-reads.Learnt, intersection-reads.Asked, intersection-reads.Learnt, empty-reads.Asked, empty-reads.Learnt, grown-below t, grown.Post, grown-by-below t, grown-by.Post, weighted-reads.Asked, weighted-reads.Learnt, pays-reads.Asked, pays-reads.Learnt, highest-reads.Asked, highest-reads.Learnt, without-reads.Asked, without-reads.Learnt, minus-reads.Asked, minus-reads.Learnt)
+
+abbrev columns-calls : ℕ → columns-lts.Claims
+columns-calls t =
+    (weighs-reads.Asked, weighs-reads.Learnt, prices-behind-reads.Asked, prices-behind-reads.Learnt, column-below t, column.Post, pays-reads.Asked, pays-reads.Learnt, weighted-reads.Asked, weighted-reads.Learnt, also-reads.Asked, also-reads.Learnt)
+
+abbrev relation-calls : ℕ → relation-lts.Claims
+relation-calls t =
+    (narrowed-reads.Asked, narrowed-reads.Learnt, recall-reads.Asked, recall-reads.Learnt, solve-below t, solve.Post, remember-reads.Asked, remember-reads.Learnt)
+
+abbrev said-by-calls : ℕ → said-by-lts.Claims
+said-by-calls t =
+    (by-list-below t, by-list.Post, by-columns-below t, by-columns.Post)
+
+abbrev grown-by-calls : ℕ → grown-by-lts.Claims
+grown-by-calls t =
+    (heaviest-reads.Asked, heaviest-reads.Learnt, highest-reads.Asked, highest-reads.Learnt, without-reads.Asked, without-reads.Learnt, with-reads.Asked, with-reads.Learnt, keeps-below t, keeps.Post)
 
 abbrev refuted-calls : ℕ → refuted-lts.Claims
 refuted-calls t =
@@ -354,11 +474,11 @@ refuted-calls t =
 
 abbrev relations-calls : ℕ → relations-lts.Claims
 relations-calls t =
-    (counted-reads.Asked, counted-reads.Learnt, highest-reads.Asked, highest-reads.Learnt, question-of-reads.Asked, question-of-reads.Learnt, asking-reads.Asked, asking-reads.Learnt, solve-below t, solve.Post, minus-reads.Asked, minus-reads.Learnt)
+    (counted-reads.Asked, counted-reads.Learnt, highest-reads.Asked, highest-reads.Learnt, question-of-reads.Asked, question-of-reads.Learnt, asking-reads.Asked, asking-reads.Learnt, relation-below t, relation.Post, minus-reads.Asked, minus-reads.Learnt)
 
 abbrev solve-calls : ℕ → solve-lts.Claims
 solve-calls t =
-    (keeps-below t, keeps.Post, opposed-below t, opposed.Post, greedy-below t, greedy.Post, by-list-below t, by-list.Post, past-list-below t, past-list.Post)
+    (keeps-below t, keeps.Post, opposed-below t, opposed.Post, greedy-below t, greedy.Post, by-lists-below t, by-lists.Post, by-asking-below t, by-asking.Post)
 
 abbrev split-calls : ℕ → split-lts.Claims
 split-calls t =
@@ -397,34 +517,34 @@ case-holds-returns t c = (case-answer _ (c .before .before .world .result) (case
 case-holds-returns-2 : (t : ℕ) → case-holds-lts.Need-returns-2 (case-holds-calls t) (case-holds-at t) case-holds.Post
 case-holds-returns-2 t c = (λ s u inside. (rw (c .enum-told .given .1) at (c .before .before .branch .ensures)) s u, c .before .before .before .before .before .pre .1 .memory)
 
-keeps-sub-promised : (t : ℕ) → keeps-lts.Need-sub-promised (keeps-calls t) (keeps-at t) keeps.Post
-keeps-sub-promised t c = search needs
+can-keep-sub-promised : (t : ℕ) → can-keep-lts.Need-sub-promised (can-keep-calls t) (can-keep-at t) can-keep.Post
+can-keep-sub-promised t c = search needs
 
-keeps-promised-requires : (t : ℕ) → keeps-lts.Need-promised-requires (keeps-calls t) (keeps-at t) keeps.Post
-keeps-promised-requires t c κs = c .before .before .pre .1 .promising
+can-keep-promised-requires : (t : ℕ) → can-keep-lts.Need-promised-requires (can-keep-calls t) (can-keep-at t) can-keep.Post
+can-keep-promised-requires t c κs = c .before .before .pre .1 .promising
 
-keeps-enum-known-v : (t : ℕ) → keeps-lts.Need-enum-known-v (keeps-calls t) (keeps-at t) keeps.Post
-keeps-enum-known-v t c = search needs
+can-keep-enum-known-v : (t : ℕ) → can-keep-lts.Need-enum-known-v (can-keep-calls t) (can-keep-at t) can-keep.Post
+can-keep-enum-known-v t c = search needs
 
 -- what the promises have come to
-made : (t : ℕ) (c : keeps-lts.After-v (keeps-calls t) (keeps-at t) keeps.Post)
+made : (t : ℕ) (c : can-keep-lts.After-v (can-keep-calls t) (can-keep-at t) can-keep.Post)
     → Promised (problemOf (c .before .before .before .before .before .args .entries .now) (c .before .before .before .before .before .args .q)) (member (c .before .before .before .before .before .args .promises)) (c .before .before .before .before .before .args .depth - 1) (c .v .given .0 .0)
 made t c = rw (c .v .given .1) at (c .before .before .promised .ensures)
 
-keeps-next-requires : (t : ℕ) → keeps-lts.Need-next-requires (keeps-calls t) (keeps-at t) keeps.Post
-keeps-next-requires t c κs =
+can-keep-next-requires : (t : ℕ) → can-keep-lts.Need-next-requires (can-keep-calls t) (can-keep-at t) can-keep.Post
+can-keep-next-requires t c κs =
     let start = (c .before .before .before .before .before .before .before) in
     let asked = start .pre .1 in
     (omega (arith, start .pre .0), record { ready = made t (c .before .before) .ready; deep = asked .deep; room = asked .room; memory = asked .memory })
 
-keeps-enum-told : (t : ℕ) → keeps-lts.Need-enum-told (keeps-calls t) (keeps-at t) keeps.Post
-keeps-enum-told t c = search needs
+can-keep-enum-told : (t : ℕ) → can-keep-lts.Need-enum-told (can-keep-calls t) (can-keep-at t) can-keep.Post
+can-keep-enum-told t c = search needs
 
-keeps-same-length : (t : ℕ) → keeps-lts.Need-same-length (keeps-calls t) (keeps-at t) keeps.Post
-keeps-same-length t c = search needs
+can-keep-same-length : (t : ℕ) → can-keep-lts.Need-same-length (can-keep-calls t) (can-keep-at t) can-keep.Post
+can-keep-same-length t c = search needs
 
-keeps-returns : (t : ℕ) → keeps-lts.Need-returns (keeps-calls t) (keeps-at t) keeps.Post
-keeps-returns t c =
+can-keep-returns : (t : ℕ) → can-keep-lts.Need-returns (can-keep-calls t) (can-keep-at t) can-keep.Post
+can-keep-returns t c =
     let start = (c .before .before .before .before .before .before .before .before .before .before) in
     let had = c .before .before .next .ensures in
     record {
@@ -433,13 +553,79 @@ keeps-returns t c =
       memory = had .memory;
     }
 
-keeps-returns-2 : (t : ℕ) → keeps-lts.Need-returns-2 (keeps-calls t) (keeps-at t) keeps.Post
-keeps-returns-2 t c =
+can-keep-returns-2 : (t : ℕ) → can-keep-lts.Need-returns-2 (can-keep-calls t) (can-keep-at t) can-keep.Post
+can-keep-returns-2 t c =
     let start = (c .before .before .before .before .before) in
     record {
       answers = promised-unfit (problemOf (start .args .entries .now) (start .args .q)) (start .args .promises) (rw (c .enum-told .given .1) at (c .before .before .promised .ensures));
       same = refl;
       memory = start .pre .1 .memory;
+    }
+
+keeps-sub-parts : (t : ℕ) → keeps-lts.Need-sub-parts (keeps-calls t) (keeps-at t) keeps.Post
+keeps-sub-parts t c = omega (arith, c .before .before .pre .1 .deep)
+
+keeps-parts-requires : (t : ℕ) → keeps-lts.Need-parts-requires (keeps-calls t) (keeps-at t) keeps.Post
+keeps-parts-requires t c κs = c .before .before .pre .1 .promising
+
+keeps-sub-parts-2 : (t : ℕ) → keeps-lts.Need-sub-parts-2 (keeps-calls t) (keeps-at t) keeps.Post
+keeps-sub-parts-2 t c = omega (arith, c .before .before .before .pre .1 .deep)
+
+keeps-parts-requires-2 : (t : ℕ) → keeps-lts.Need-parts-requires-2 (keeps-calls t) (keeps-at t) keeps.Post
+keeps-parts-requires-2 t c κs = c .before .before .before .pre .1 .promising
+
+keeps-add-from : (t : ℕ) → keeps-lts.Need-add-from (keeps-calls t) (keeps-at t) keeps.Post
+keeps-add-from t c = omega (arith, room-depth (c .before .before .before .before .pre .1 .room), c .before .before .before .before .good .1 .1 .1 .1 .1 .0)
+
+keeps-mul-from : (t : ℕ) → keeps-lts.Need-mul-from (keeps-calls t) (keeps-at t) keeps.Post
+keeps-mul-from t c = record { fits = from-fits (c .before .before .before .before .pre .1 .room) (omega (arith, c .before .before .before .before .good .1 .1 .1 .1 .1 .0)) }
+
+keeps-recall-requires : (t : ℕ) → keeps-lts.Need-recall-requires (keeps-calls t) (keeps-at t) keeps.Post
+keeps-recall-requires t c κs = search needs
+
+keeps-enum-known-known : (t : ℕ) → keeps-lts.Need-enum-known-known (keeps-calls t) (keeps-at t) keeps.Post
+keeps-enum-known-known t c = search needs
+
+keeps-same-length : (t : ℕ) → keeps-lts.Need-same-length (keeps-calls t) (keeps-at t) keeps.Post
+keeps-same-length t c = search needs
+
+keeps-returns : (t : ℕ) → keeps-lts.Need-returns (keeps-calls t) (keeps-at t) keeps.Post
+keeps-returns t c =
+    let start = (c .before .before .before .before .before .before .before .before .before) in
+    let a = start .args in
+    let asked = start .pre .1 in
+    record {
+      answers = parts-fit (problemOf (a .entries .now) (a .q)) (a .promises) (asked .promising) (c .before .before .before .before .before .before .parts .ensures) (c .before .before .before .before .before .parts2 .ensures) (c .before .known .given .0 .0) (rw (c .before .known .given .1) at (c .before .before .before .recall .ensures (wideAt (a .entries .now)) (memory-from (wideAt (a .entries .now)) (a .depth) (a .level) (a .work .now) (asked .memory))));
+      same = refl;
+      memory = asked .memory;
+    }
+
+keeps-enum-told : (t : ℕ) → keeps-lts.Need-enum-told (keeps-calls t) (keeps-at t) keeps.Post
+keeps-enum-told t c = search needs
+
+keeps-can-keep-requires : (t : ℕ) → keeps-lts.Need-can-keep-requires (keeps-calls t) (keeps-at t) keeps.Post
+keeps-can-keep-requires t c κs = (omega (arith, c .before .before .before .before .before .before .before .before .before .pre .0), c .before .before .before .before .before .before .before .before .before .pre .1)
+
+keeps-remember-requires : (t : ℕ) → keeps-lts.Need-remember-requires (keeps-calls t) (keeps-at t) keeps.Post
+keeps-remember-requires t c κs = search needs
+
+keeps-same-length-2 : (t : ℕ) → keeps-lts.Need-same-length-2 (keeps-calls t) (keeps-at t) keeps.Post
+keeps-same-length-2 t c = search needs
+
+keeps-returns-2 : (t : ℕ) → keeps-lts.Need-returns-2 (keeps-calls t) (keeps-at t) keeps.Post
+keeps-returns-2 t c =
+    let start = (c .before .before .before .before .before .before .before .before .before .before .before .before .before .before .before .before) in
+    let a = start .args in
+    let entry = wideAt (a .entries .now) in
+    let kept = c .before .before .before .before .before .before .can-keep .ensures in
+    let mid = c .before .before .before .before .before .before .can-keep .last .1 .1 .1 .1 .1 .0 in
+    let stored = c .before .before .remember .ensures in
+    let after = c .before .before .remember .last .0 in
+    record {
+      answers = kept .answers;
+      same = next-same (a .depth) (a .level) after mid (a .work .now) (stored .same) (kept .same);
+      memory = memory-to entry (a .depth) (a .level) after
+          (stored .memory entry (memory-from entry (a .depth) (a .level) mid (kept .memory)) (fit-parts (problemOf (a .entries .now) (a .q)) (a .promises) (start .pre .1 .promising) (c .before .before .before .before .before .before .before .before .before .before .before .before .before .parts .ensures) (c .before .before .before .before .before .before .before .before .before .before .before .before .parts2 .ensures) (c .before .before .before .before .before .before .can-keep .result) (kept .answers)));
     }
 
 next-add-from : (t : ℕ) → next-lts.Need-add-from (next-calls t) (next-at t) next.Post
@@ -529,14 +715,8 @@ opposed-Inv-loop entries q all depth level work₀ needs₀ limits₀ work needs
 abbrev opposed-μ-loop : opposed-lts.MeasureT-loop
 opposed-μ-loop entries q all depth level work₀ needs₀ limits₀ work needs limits = count (member needs) (length entries) * 65 + count (member limits) (length entries)
 
-opposed-len-requires : (t : ℕ) → opposed-lts.Need-len-requires (opposed-calls t) (opposed-at t) opposed.Post opposed-Inv-loop opposed-μ-loop
-opposed-len-requires t c κs = search needs
-
-opposed-returns : (t : ℕ) → opposed-lts.Need-returns (opposed-calls t) (opposed-at t) opposed.Post opposed-Inv-loop opposed-μ-loop
-opposed-returns t c = record { answers = λ e. absurd (false≢true e); same = refl; memory = c .before .before .before .before .pre .1 .memory }
-
 opposed-loop-holds : (t : ℕ) → opposed-lts.Need-loop-holds (opposed-calls t) (opposed-at t) opposed.Post opposed-Inv-loop opposed-μ-loop
-opposed-loop-holds t c = (λ i h. h, λ i h. h, refl, refl, c .before .before .before .before .pre .1 .memory)
+opposed-loop-holds t c = (λ i h. h, λ i h. h, refl, refl, c .before .before .pre .1 .memory)
 
 opposed-highest-requires : (t : ℕ) → opposed-lts.Need-highest-requires (opposed-calls t) (opposed-at t) opposed.Post opposed-Inv-loop opposed-μ-loop
 opposed-highest-requires t c κs = search needs
@@ -550,8 +730,8 @@ opposed-enum-told t c = search needs
 opposed-same-length : (t : ℕ) → opposed-lts.Need-same-length (opposed-calls t) (opposed-at t) opposed.Post opposed-Inv-loop opposed-μ-loop
 opposed-same-length t c = c .before .before .before .loop .inv .2
 
-opposed-returns-2 : (t : ℕ) → opposed-lts.Need-returns-2 (opposed-calls t) (opposed-at t) opposed.Post opposed-Inv-loop opposed-μ-loop
-opposed-returns-2 t c = record { answers = λ e. absurd (false≢true e); same = c .before .before .before .loop .inv .3; memory = c .before .before .before .loop .inv .4 }
+opposed-returns : (t : ℕ) → opposed-lts.Need-returns (opposed-calls t) (opposed-at t) opposed.Post opposed-Inv-loop opposed-μ-loop
+opposed-returns t c = record { answers = λ e. absurd (false≢true e); same = c .before .before .before .loop .inv .3; memory = c .before .before .before .loop .inv .4 }
 
 opposed-highest-requires-2 : (t : ℕ) → opposed-lts.Need-highest-requires-2 (opposed-calls t) (opposed-at t) opposed.Post opposed-Inv-loop opposed-μ-loop
 opposed-highest-requires-2 t c κs = search needs
@@ -563,14 +743,14 @@ opposed-enum-known-j t c = search needs
 first-in : (t : ℕ) (c : opposed-lts.After-i (opposed-calls t) (opposed-at t) opposed.Post opposed-Inv-loop opposed-μ-loop) → member (c .before .before .before .loop .needs) (c .i .given .0 .0) ≡ true
 first-in t c = (rw (c .i .given .1) at (c .before .before .highest .ensures)) .here
 
-first-below : (t : ℕ) (c : opposed-lts.After-i (opposed-calls t) (opposed-at t) opposed.Post opposed-Inv-loop opposed-μ-loop) → c .i .given .0 .0 < length (c .before .before .before .before .before .before .before .before .args .entries .now)
-first-below t c = chosen-below (c .before .before .before .before .before .before .before .before .pre .1) (c .before .before .before .loop .inv .0) _ (first-in t c)
+first-below : (t : ℕ) (c : opposed-lts.After-i (opposed-calls t) (opposed-at t) opposed.Post opposed-Inv-loop opposed-μ-loop) → c .i .given .0 .0 < length (c .before .before .before .before .before .before .args .entries .now)
+first-below t c = chosen-below (c .before .before .before .before .before .before .pre .1) (c .before .before .before .loop .inv .0) _ (first-in t c)
 
 second-in : (t : ℕ) (c : opposed-lts.After-j (opposed-calls t) (opposed-at t) opposed.Post opposed-Inv-loop opposed-μ-loop) → member (c .before .before .before .before .before .before .before .loop .limits) (c .j .given .0 .0) ≡ true
 second-in t c = (rw (c .j .given .1) at (c .before .before .highest2 .ensures)) .here
 
-second-below : (t : ℕ) (c : opposed-lts.After-j (opposed-calls t) (opposed-at t) opposed.Post opposed-Inv-loop opposed-μ-loop) → c .j .given .0 .0 < length (c .before .before .before .before .before .before .before .before .before .before .before .before .args .entries .now)
-second-below t c = chosen-below (c .before .before .before .before .before .before .before .before .before .before .before .before .pre .1) (c .before .before .before .before .before .before .before .loop .inv .1) _ (second-in t c)
+second-below : (t : ℕ) (c : opposed-lts.After-j (opposed-calls t) (opposed-at t) opposed.Post opposed-Inv-loop opposed-μ-loop) → c .j .given .0 .0 < length (c .before .before .before .before .before .before .before .before .before .before .args .entries .now)
+second-below t c = chosen-below (c .before .before .before .before .before .before .before .before .before .before .pre .1) (c .before .before .before .before .before .before .before .loop .inv .1) _ (second-in t c)
 
 opposed-without-requires : (t : ℕ) → opposed-lts.Need-without-requires (opposed-calls t) (opposed-at t) opposed.Post opposed-Inv-loop opposed-μ-loop
 opposed-without-requires t c κs = search needs
@@ -579,11 +759,11 @@ opposed-exceeds-requires : (t : ℕ) → opposed-lts.Need-exceeds-requires (oppo
 opposed-exceeds-requires t c κs = (first-below t (c .before .before .before .before .before .before), second-below t (c .before .before))
 
 opposed-pair-requires : (t : ℕ) → opposed-lts.Need-pair-requires (opposed-calls t) (opposed-at t) opposed.Post opposed-Inv-loop opposed-μ-loop
-opposed-pair-requires t c κs = (omega (arith, first-below t (c .before .before .before .before .before .before .before .before), c .before .before .before .before .before .before .before .before .before .before .before .before .before .before .before .before .pre .1 .promising .few), omega (arith, second-below t (c .before .before .before .before), c .before .before .before .before .before .before .before .before .before .before .before .before .before .before .before .before .pre .1 .promising .few))
+opposed-pair-requires t c κs = (omega (arith, first-below t (c .before .before .before .before .before .before .before .before), c .before .before .before .before .before .before .before .before .before .before .before .before .before .before .pre .1 .promising .few), omega (arith, second-below t (c .before .before .before .before), c .before .before .before .before .before .before .before .before .before .before .before .before .before .before .pre .1 .promising .few))
 
 opposed-keeps-requires : (t : ℕ) → opposed-lts.Need-keeps-requires (opposed-calls t) (opposed-at t) opposed.Post opposed-Inv-loop opposed-μ-loop
 opposed-keeps-requires t c κs =
-    let start = (c .before .before .before .before .before .before .before .before .before .before .before .before .before .before .before .before .before .before) in
+    let start = (c .before .before .before .before .before .before .before .before .before .before .before .before .before .before .before .before) in
     let asked = start .pre .1 in (
       omega (arith, start .pre .0),
       record {
@@ -597,9 +777,9 @@ opposed-keeps-requires t c κs =
 opposed-same-length-2 : (t : ℕ) → opposed-lts.Need-same-length-2 (opposed-calls t) (opposed-at t) opposed.Post opposed-Inv-loop opposed-μ-loop
 opposed-same-length-2 t c = c .before .before .before .keeps .kept .1 .1 .1 .1 .1 .0 ∙ c .before .before .before .before .before .before .before .before .before .before .before .before .before .before .before .before .before .loop .inv .2
 
-opposed-returns-3 : (t : ℕ) → opposed-lts.Need-returns-3 (opposed-calls t) (opposed-at t) opposed.Post opposed-Inv-loop opposed-μ-loop
-opposed-returns-3 t c = record {
-  answers = λ e. pair-opposed _ _ _ _ (c .before .before .before .before .before .pair .ensures) (c .before .before .before .before .before .before .before .exceeds .ensures (c .before .before .before .before .before .before .if2 .taken)) (rw (not-true (c .before .before .before .keeps .result) (c .if3 .taken)) at (c .before .before .before .keeps .ensures .answers));
+opposed-returns-2 : (t : ℕ) → opposed-lts.Need-returns-2 (opposed-calls t) (opposed-at t) opposed.Post opposed-Inv-loop opposed-μ-loop
+opposed-returns-2 t c = record {
+  answers = λ e. pair-opposed _ _ _ _ (c .before .before .before .before .before .pair .ensures) (c .before .before .before .before .before .before .before .exceeds .ensures (c .before .before .before .before .before .before .if1 .taken)) (rw (not-true (c .before .before .before .keeps .result) (c .if2 .taken)) at (c .before .before .before .keeps .ensures .answers));
   same = c .before .before .before .keeps .ensures .same ∙ c .before .before .before .before .before .before .before .before .before .before .before .before .before .before .before .before .before .loop .inv .3;
   memory = c .before .before .before .keeps .ensures .memory;
 }
@@ -631,7 +811,7 @@ opposed-without-requires-2 t c κs = search needs
 opposed-loop-less-3 : (t : ℕ) → opposed-lts.Need-loop-less-3 (opposed-calls t) (opposed-at t) opposed.Post opposed-Inv-loop opposed-μ-loop
 opposed-loop-less-3 t c =
     rw (c .without2 .ensures)
-    (omega (arith, count-removed (member (c .before .before .before .before .before .before .before .before .loop .needs)) _ (first-in t (c .before .before .before .before .before)) (first-below t (c .before .before .before .before .before)), count-le (member (c .before .before .before .before .before .before .before .before .before .before .before .before .before .args .all)) (length (c .before .before .before .before .before .before .before .before .before .before .before .before .before .args .entries .now)), c .before .before .before .before .before .before .before .before .before .before .before .before .before .pre .1 .promising .few))
+    (omega (arith, count-removed (member (c .before .before .before .before .before .before .before .before .loop .needs)) _ (first-in t (c .before .before .before .before .before)) (first-below t (c .before .before .before .before .before)), count-le (member (c .before .before .before .before .before .before .before .before .before .before .before .args .all)) (length (c .before .before .before .before .before .before .before .before .before .before .before .args .entries .now)), c .before .before .before .before .before .before .before .before .before .before .before .pre .1 .promising .few))
 
 opposed-loop-again-3 : (t : ℕ) → opposed-lts.Need-loop-again-3 (opposed-calls t) (opposed-at t) opposed.Post opposed-Inv-loop opposed-μ-loop
 opposed-loop-again-3 t c = (rw (c .without2 .ensures) (within-removed _ (c .before .before .before .before .before .before .before .before .loop .inv .0)), λ i h. h, c .before .before .before .before .before .before .before .before .loop .inv .2, c .before .before .before .before .before .before .before .before .loop .inv .3, c .before .before .before .before .before .before .before .before .loop .inv .4)
@@ -678,25 +858,28 @@ counts t c = c .before .before .before .loop .inv .0 .within _ (chosen t c)
 relations-asking-requires : (t : ℕ) → relations-lts.Need-asking-requires (relations-calls t) (relations-at t) relations.Post relations-Inv-loop relations-μ-loop
 relations-asking-requires t c κs = question-small (c .before .before .before .before .before .before .before .before .before .pre .1 .ready) (c .question-of .ensures)
 
-relations-solve-requires : (t : ℕ) → relations-lts.Need-solve-requires (relations-calls t) (relations-at t) relations.Post relations-Inv-loop relations-μ-loop
-relations-solve-requires t c κs =
+relations-relation-requires : (t : ℕ) → relations-lts.Need-relation-requires (relations-calls t) (relations-at t) relations.Post relations-Inv-loop relations-μ-loop
+relations-relation-requires t c κs =
     let start = (c .before .before .before .before .before .before .before .before .before .before .before) in
     let deep = counting-deep (start .pre .1 .ready) _ (counts t (c .before .before .before .before)) in (
       omega (arith, start .pre .0),
       record {
-        promising = question-promising (start .pre .1 .ready) (c .before .before .question-of .ensures) deep;
-        deep = deep;
-        all-asking = c .before .asking .ensures;
-        room = room-kept (c .before .before .before .before .before .before .before .loop .inv .1) (start .pre .1 .room);
-        memory = c .before .before .before .before .before .before .before .loop .inv .2;
+        problem = record {
+          promising = question-promising (start .pre .1 .ready) (c .before .before .question-of .ensures) deep;
+          deep = deep;
+          all-asking = c .before .asking .ensures;
+          room = room-kept (c .before .before .before .before .before .before .before .loop .inv .1) (start .pre .1 .room);
+          memory = c .before .before .before .before .before .before .before .loop .inv .2;
+        };
+        positive = question-positive (start .pre .1 .ready) (c .before .before .question-of .ensures);
       },
     )
 
 relations-same-length-2 : (t : ℕ) → relations-lts.Need-same-length-2 (relations-calls t) (relations-at t) relations.Post relations-Inv-loop relations-μ-loop
-relations-same-length-2 t c = c .before .before .before .solve .kept .1 .1 .1 .1 .1 .0 ∙ c .before .before .before .before .before .before .before .before .before .before .before .loop .inv .1
+relations-same-length-2 t c = c .before .before .before .relation .kept .1 .1 .1 .1 .1 .0 ∙ c .before .before .before .before .before .before .before .before .before .before .before .loop .inv .1
 
 relations-returns-2 : (t : ℕ) → relations-lts.Need-returns-2 (relations-calls t) (relations-at t) relations.Post relations-Inv-loop relations-μ-loop
-relations-returns-2 t c = (unsolved _ _ (c .before .before .before .before .before .before .before .before .before .before .before .before .before .before .before .pre .1 .ready) _ (own-no-solution (c .before .before .before .before .before .before .question-of .ensures) (rw (not-true (c .before .before .before .solve .result) (c .if1 .taken)) at (c .before .before .before .solve .ensures .0))), c .before .before .before .solve .ensures .1)
+relations-returns-2 t c = (unsolved _ _ (c .before .before .before .before .before .before .before .before .before .before .before .before .before .before .before .pre .1 .ready) _ (own-no-solution (c .before .before .before .before .before .before .question-of .ensures) (rw (not-true (c .before .before .before .relation .result) (c .if1 .taken)) at (c .before .before .before .relation .ensures .0))), c .before .before .before .relation .ensures .1)
 
 relations-minus-requires : (t : ℕ) → relations-lts.Need-minus-requires (relations-calls t) (relations-at t) relations.Post relations-Inv-loop relations-μ-loop
 relations-minus-requires t c κs = search needs
@@ -716,9 +899,9 @@ relations-loop-again : (t : ℕ) → relations-lts.Need-loop-again (relations-ca
 relations-loop-again t c =
     let own = c .before .before .before .before .before .before .before .question-of .ensures in (
       rw (c .minus .ensures)
-          (solving-next _ _ _ (c .before .before .before .before .before .before .before .before .before .before .before .before .loop .inv .0) (own-solution own (rw (not-false (c .before .before .before .before .solve .result) (c .before .if1 .left)) at (c .before .before .before .before .solve .ensures .0))) _ (rw (own .yes, own .no, own .relation) at (c .before .before .before .before .before .before .asking .ensures))),
-      c .before .before .before .before .solve .kept .1 .1 .1 .1 .1 .0 ∙ c .before .before .before .before .before .before .before .before .before .before .before .before .loop .inv .1,
-      c .before .before .before .before .solve .ensures .1,
+          (solving-next _ _ _ (c .before .before .before .before .before .before .before .before .before .before .before .before .loop .inv .0) (own-solution own (rw (not-false (c .before .before .before .before .relation .result) (c .before .if1 .left)) at (c .before .before .before .before .relation .ensures .0))) _ (rw (own .yes, own .no, own .relation) at (c .before .before .before .before .before .before .asking .ensures))),
+      c .before .before .before .before .relation .kept .1 .1 .1 .1 .1 .0 ∙ c .before .before .before .before .before .before .before .before .before .before .before .before .loop .inv .1,
+      c .before .before .before .before .relation .ensures .1,
     )
 
 abbrev by-asking-Inv-loop : by-asking-lts.InvT-loop
@@ -1239,10 +1422,10 @@ solve-returns-3 : (t : ℕ) → solve-lts.Need-returns-3 (solve-calls t) (solve-
 solve-returns-3 t c = (c .before .before .before .greedy .ensures .answers (c .if3 .taken), c .before .before .before .greedy .ensures .memory)
 
 solve-same-length-4 : (t : ℕ) → solve-lts.Need-same-length-4 (solve-calls t) (solve-at t) solve.Post
-solve-same-length-4 t c = c .before .before .before .before .by-list .kept .1 .1 .1 .1 .1 .0 ∙ c .before .before .before .before .before .before .before .before .before .greedy .kept .1 .1 .1 .1 .1 .0 ∙ c .before .before .before .before .before .before .before .before .before .before .before .before .before .before .opposed .kept .1 .1 .1 .1 .1 .0 ∙ c .before .before .before .before .before .before .before .before .before .before .before .before .before .before .before .before .before .before .before .keeps .kept .1 .1 .1 .1 .1 .0
+solve-same-length-4 t c = c .before .before .before .before .by-lists .kept .1 .1 .1 .1 .1 .0 ∙ c .before .before .before .before .before .before .before .before .before .greedy .kept .1 .1 .1 .1 .1 .0 ∙ c .before .before .before .before .before .before .before .before .before .before .before .before .before .before .opposed .kept .1 .1 .1 .1 .1 .0 ∙ c .before .before .before .before .before .before .before .before .before .before .before .before .before .before .before .before .before .before .before .keeps .kept .1 .1 .1 .1 .1 .0
 
 solve-returns-4 : (t : ℕ) → solve-lts.Need-returns-4 (solve-calls t) (solve-at t) solve.Post
-solve-returns-4 t c = rw (c .enum-told .given .1) at (c .before .before .before .before .by-list .ensures)
+solve-returns-4 t c = rw (c .enum-told .given .1) at (c .before .before .before .before .by-lists .ensures)
 
 split-highest-requires : (t : ℕ) → split-lts.Need-highest-requires (split-calls t) (split-at t) split.Post
 split-highest-requires t c κs = search needs
@@ -1367,89 +1550,104 @@ world-returns t c = (forced-answer (forced t (c .before .before .before .before 
 world-returns-2 : (t : ℕ) → world-lts.Need-returns-2 (world-calls t) (world-at t) world.Post
 world-returns-2 t c = (λ sat. (rw (c .enum-told .given .1) at (c .before .before .force .ensures)) (sat .structure) (sat .world) (sat .meets), c .before .before .before .before .before .pre .1 .memory)
 
-abbrev grown-Inv-loop : grown-lts.InvT-loop
-grown-Inv-loop entries q depth level work₀ set₀ rest₀ work set rest =
+abbrev grown-by-Inv-loop : grown-by-lts.InvT-loop
+grown-by-Inv-loop entries q prices depth level work₀ set₀ rest₀ work set rest =
     Within (member set) (asking (problemOf entries q)) × Within (member rest) (asking (problemOf entries q)) × FitIfAny (problemOf entries q) set × (length work ≡ length work₀) × (take level work ≡ take level work₀) × Remembers (wideAt entries) depth level work
 
-abbrev grown-μ-loop : grown-lts.MeasureT-loop
-grown-μ-loop entries q depth level work₀ set₀ rest₀ work set rest = count (member rest) 64
+abbrev grown-by-μ-loop : grown-by-lts.MeasureT-loop
+grown-by-μ-loop entries q prices depth level work₀ set₀ rest₀ work set rest = count (member rest) 64
 
-grown-loop-holds : (t : ℕ) → grown-lts.Need-loop-holds (grown-calls t) (grown-at t) grown.Post grown-Inv-loop grown-μ-loop
-grown-loop-holds t c =
+grown-by-loop-holds : (t : ℕ) → grown-by-lts.Need-loop-holds (grown-by-calls t) (grown-by-at t) grown-by.Post grown-by-Inv-loop grown-by-μ-loop
+grown-by-loop-holds t c =
     let a = c .before .before .args in
     let asked = c .before .before .pre .1 in
     (λ i h. asked .promising .within i (either-left (member (a .low)) (member (a .free)) i h), λ i h. asked .promising .within i (either-right (member (a .low)) (member (a .free)) i h), asked .fit, refl, refl, asked .memory)
 
-grown-highest-requires : (t : ℕ) → grown-lts.Need-highest-requires (grown-calls t) (grown-at t) grown.Post grown-Inv-loop grown-μ-loop
-grown-highest-requires t c κs = search needs
+grown-by-heaviest-requires : (t : ℕ) → grown-by-lts.Need-heaviest-requires (grown-by-calls t) (grown-by-at t) grown-by.Post grown-by-Inv-loop grown-by-μ-loop
+grown-by-heaviest-requires t c κs = search needs
 
-grown-enum-known-i : (t : ℕ) → grown-lts.Need-enum-known-i (grown-calls t) (grown-at t) grown.Post grown-Inv-loop grown-μ-loop
-grown-enum-known-i t c = search needs
+grown-by-highest-requires : (t : ℕ) → grown-by-lts.Need-highest-requires (grown-by-calls t) (grown-by-at t) grown-by.Post grown-by-Inv-loop grown-by-μ-loop
+grown-by-highest-requires t c κs = search needs
 
-grown-enum-told : (t : ℕ) → grown-lts.Need-enum-told (grown-calls t) (grown-at t) grown.Post grown-Inv-loop grown-μ-loop
-grown-enum-told t c = search needs
+grown-by-enum-known-i : (t : ℕ) → grown-by-lts.Need-enum-known-i (grown-by-calls t) (grown-by-at t) grown-by.Post grown-by-Inv-loop grown-by-μ-loop
+grown-by-enum-known-i t c = search needs
 
-grown-same-length : (t : ℕ) → grown-lts.Need-same-length (grown-calls t) (grown-at t) grown.Post grown-Inv-loop grown-μ-loop
-grown-same-length t c = c .before .before .before .loop .inv .3
+grown-by-enum-told : (t : ℕ) → grown-by-lts.Need-enum-told (grown-by-calls t) (grown-by-at t) grown-by.Post grown-by-Inv-loop grown-by-μ-loop
+grown-by-enum-told t c = search needs
 
-grown-returns : (t : ℕ) → grown-lts.Need-returns (grown-calls t) (grown-at t) grown.Post grown-Inv-loop grown-μ-loop
-grown-returns t c = let inv = c .before .before .before .loop .inv in record { promising = promising-of (c .before .before .before .before .before .before .pre .1 .promising) (inv .0); fit = inv .2; same = inv .4; memory = inv .5 }
+grown-by-same-length : (t : ℕ) → grown-by-lts.Need-same-length (grown-by-calls t) (grown-by-at t) grown-by.Post grown-by-Inv-loop grown-by-μ-loop
+grown-by-same-length t c = c .before .before .before .before .loop .inv .3
 
-grown-without-requires : (t : ℕ) → grown-lts.Need-without-requires (grown-calls t) (grown-at t) grown.Post grown-Inv-loop grown-μ-loop
-grown-without-requires t c κs = search needs
+grown-by-returns : (t : ℕ) → grown-by-lts.Need-returns (grown-by-calls t) (grown-by-at t) grown-by.Post grown-by-Inv-loop grown-by-μ-loop
+grown-by-returns t c = let inv = c .before .before .before .before .loop .inv in record { promising = promising-of (c .before .before .before .before .before .before .before .pre .1 .promising) (inv .0); fit = inv .2; same = inv .4; memory = inv .5 }
+
+grown-by-without-requires : (t : ℕ) → grown-by-lts.Need-without-requires (grown-by-calls t) (grown-by-at t) grown-by.Post grown-by-Inv-loop grown-by-μ-loop
+grown-by-without-requires t c κs = search needs
 
 -- the member that is tried next
-next-in : (t : ℕ) (c : grown-lts.After-i (grown-calls t) (grown-at t) grown.Post grown-Inv-loop grown-μ-loop) → member (c .before .before .before .loop .rest) (c .i .given .0 .0) ≡ true
-next-in t c = (rw (c .i .given .1) at (c .before .before .highest .ensures)) .here
+next-in : (t : ℕ) (c : grown-by-lts.After-i (grown-by-calls t) (grown-by-at t) grown-by.Post grown-by-Inv-loop grown-by-μ-loop) → member (c .before .before .before .before .loop .rest) (c .i .given .0 .0) ≡ true
+next-in t c = c .before .before .before .heaviest .ensures _ ((rw (c .i .given .1) at (c .before .before .highest .ensures)) .here)
 
-next-small : (t : ℕ) (c : grown-lts.After-i (grown-calls t) (grown-at t) grown.Post grown-Inv-loop grown-μ-loop) → c .i .given .0 .0 < 64
+next-small : (t : ℕ) (c : grown-by-lts.After-i (grown-by-calls t) (grown-by-at t) grown-by.Post grown-by-Inv-loop grown-by-μ-loop) → c .i .given .0 .0 < 64
 next-small t c =
-    let a = c .before .before .before .before .before .before .args in
-    let promising = c .before .before .before .before .before .before .pre .1 .promising in
+    let a = c .before .before .before .before .before .before .before .args in
+    let promising = c .before .before .before .before .before .before .before .pre .1 .promising in
     let P = problemOf (a .entries .now) (a .q) in
-    omega (arith, promise-below P (asking P) (a .depth - 1) (promising-of promising (λ i h. h)) (c .i .given .0 .0) (c .before .before .before .loop .inv .1 _ (next-in t c)), promising .few)
+    omega (arith, promise-below P (asking P) (a .depth - 1) (promising-of promising (λ i h. h)) (c .i .given .0 .0) (c .before .before .before .before .loop .inv .1 _ (next-in t c)), promising .few)
 
-grown-with-requires : (t : ℕ) → grown-lts.Need-with-requires (grown-calls t) (grown-at t) grown.Post grown-Inv-loop grown-μ-loop
-grown-with-requires t c κs = next-small t (c .before .before)
+grown-by-with-requires : (t : ℕ) → grown-by-lts.Need-with-requires (grown-by-calls t) (grown-by-at t) grown-by.Post grown-by-Inv-loop grown-by-μ-loop
+grown-by-with-requires t c κs = next-small t (c .before .before)
 
 -- with it
-more-within : (t : ℕ) (c : grown-lts.After-with (grown-calls t) (grown-at t) grown.Post grown-Inv-loop grown-μ-loop) → Within (member (c .with .result)) (asking (problemOf (c .before .before .before .before .before .before .before .before .before .args .entries .now) (c .before .before .before .before .before .before .before .before .before .args .q)))
-more-within t c = rw (c .with .ensures) (added-within (member (c .before .before .before .before .before .before .loop .set)) (c .before .before .before .i .given .0 .0) (c .before .before .before .before .before .before .loop .inv .1 _ (next-in t (c .before .before .before))) (c .before .before .before .before .before .before .loop .inv .0))
+more-within : (t : ℕ) (c : grown-by-lts.After-with (grown-by-calls t) (grown-by-at t) grown-by.Post grown-by-Inv-loop grown-by-μ-loop) → Within (member (c .with .result)) (asking (problemOf (c .before .before .before .before .before .before .before .before .before .before .args .entries .now) (c .before .before .before .before .before .before .before .before .before .before .args .q)))
+more-within t c = rw (c .with .ensures) (added-within (member (c .before .before .before .before .before .before .before .loop .set)) (c .before .before .before .i .given .0 .0) (c .before .before .before .before .before .before .before .loop .inv .1 _ (next-in t (c .before .before .before))) (c .before .before .before .before .before .before .before .loop .inv .0))
 
-grown-keeps-requires : (t : ℕ) → grown-lts.Need-keeps-requires (grown-calls t) (grown-at t) grown.Post grown-Inv-loop grown-μ-loop
-grown-keeps-requires t c κs =
-    let start = (c .before .before .before .before .before .before .before .before .before .before) in
+grown-by-keeps-requires : (t : ℕ) → grown-by-lts.Need-keeps-requires (grown-by-calls t) (grown-by-at t) grown-by.Post grown-by-Inv-loop grown-by-μ-loop
+grown-by-keeps-requires t c κs =
+    let start = (c .before .before .before .before .before .before .before .before .before .before .before) in
     let asked = start .pre .1 in
-    let inv = c .before .before .before .before .before .before .before .loop .inv in
+    let inv = c .before .before .before .before .before .before .before .before .loop .inv in
     (omega (arith, start .pre .0), record { promising = promising-of (asked .promising) (more-within t (c .before)); deep = asked .deep; room = room-kept (inv .3) (asked .room); memory = inv .5 })
 
-grown-loop-less : (t : ℕ) → grown-lts.Need-loop-less (grown-calls t) (grown-at t) grown.Post grown-Inv-loop grown-μ-loop
-grown-loop-less t c = rw (c .before .before .before .before .before .before .without .ensures) (count-removed (member (c .before .before .before .before .before .before .before .before .before .before .before .loop .rest)) 64 (next-in t (c .before .before .before .before .before .before .before .before)) (next-small t (c .before .before .before .before .before .before .before .before)))
+grown-by-loop-less : (t : ℕ) → grown-by-lts.Need-loop-less (grown-by-calls t) (grown-by-at t) grown-by.Post grown-by-Inv-loop grown-by-μ-loop
+grown-by-loop-less t c = rw (c .before .before .before .before .before .before .without .ensures) (count-removed (member (c .before .before .before .before .before .before .before .before .before .before .before .before .loop .rest)) 64 (next-in t (c .before .before .before .before .before .before .before .before)) (next-small t (c .before .before .before .before .before .before .before .before)))
 
-grown-loop-again : (t : ℕ) → grown-lts.Need-loop-again (grown-calls t) (grown-at t) grown.Post grown-Inv-loop grown-μ-loop
-grown-loop-again t c =
-    let inv = c .before .before .before .before .before .before .before .before .before .before .before .loop .inv in (
+grown-by-loop-again : (t : ℕ) → grown-by-lts.Need-loop-again (grown-by-calls t) (grown-by-at t) grown-by.Post grown-by-Inv-loop grown-by-μ-loop
+grown-by-loop-again t c =
+    let inv = c .before .before .before .before .before .before .before .before .before .before .before .before .loop .inv in (
       more-within t (c .before .before .before .before .before),
-      rw (c .before .before .before .before .before .before .without .ensures) (λ j h. inv .1 j (removed-within (member (c .before .before .before .before .before .before .before .before .before .before .before .loop .rest)) (c .before .before .before .before .before .before .before .before .i .given .0 .0) j h)),
+      rw (c .before .before .before .before .before .before .without .ensures) (λ j h. inv .1 j (removed-within (member (c .before .before .before .before .before .before .before .before .before .before .before .before .loop .rest)) (c .before .before .before .before .before .before .before .before .i .given .0 .0) j h)),
       inr (rw (c .if1 .taken) at (c .before .before .before .keeps .ensures .answers)),
       c .before .before .before .keeps .kept .1 .1 .1 .1 .1 .0 ∙ inv .3,
       c .before .before .before .keeps .ensures .same ∙ inv .4,
       c .before .before .before .keeps .ensures .memory,
     )
 
-grown-loop-less-2 : (t : ℕ) → grown-lts.Need-loop-less-2 (grown-calls t) (grown-at t) grown.Post grown-Inv-loop grown-μ-loop
-grown-loop-less-2 t c = rw (c .before .before .before .before .before .before .without .ensures) (count-removed (member (c .before .before .before .before .before .before .before .before .before .before .before .loop .rest)) 64 (next-in t (c .before .before .before .before .before .before .before .before)) (next-small t (c .before .before .before .before .before .before .before .before)))
+grown-by-loop-less-2 : (t : ℕ) → grown-by-lts.Need-loop-less-2 (grown-by-calls t) (grown-by-at t) grown-by.Post grown-by-Inv-loop grown-by-μ-loop
+grown-by-loop-less-2 t c = rw (c .before .before .before .before .before .before .without .ensures) (count-removed (member (c .before .before .before .before .before .before .before .before .before .before .before .before .loop .rest)) 64 (next-in t (c .before .before .before .before .before .before .before .before)) (next-small t (c .before .before .before .before .before .before .before .before)))
 
-grown-loop-again-2 : (t : ℕ) → grown-lts.Need-loop-again-2 (grown-calls t) (grown-at t) grown.Post grown-Inv-loop grown-μ-loop
-grown-loop-again-2 t c =
-    let inv = c .before .before .before .before .before .before .before .before .before .before .before .loop .inv in (
+grown-by-loop-again-2 : (t : ℕ) → grown-by-lts.Need-loop-again-2 (grown-by-calls t) (grown-by-at t) grown-by.Post grown-by-Inv-loop grown-by-μ-loop
+grown-by-loop-again-2 t c =
+    let inv = c .before .before .before .before .before .before .before .before .before .before .before .before .loop .inv in (
       inv .0,
-      rw (c .before .before .before .before .before .before .without .ensures) (λ j h. inv .1 j (removed-within (member (c .before .before .before .before .before .before .before .before .before .before .before .loop .rest)) (c .before .before .before .before .before .before .before .before .i .given .0 .0) j h)),
+      rw (c .before .before .before .before .before .before .without .ensures) (λ j h. inv .1 j (removed-within (member (c .before .before .before .before .before .before .before .before .before .before .before .before .loop .rest)) (c .before .before .before .before .before .before .before .before .i .given .0 .0) j h)),
       inv .2,
       c .before .before .before .keeps .kept .1 .1 .1 .1 .1 .0 ∙ inv .3,
       c .before .before .before .keeps .ensures .same ∙ inv .4,
       c .before .before .before .keeps .ensures .memory,
     )
+
+grown-flat-requires : (t : ℕ) → grown-lts.Need-flat-requires (grown-calls t) (grown-at t) grown.Post
+grown-flat-requires t c κs = search needs
+
+grown-grown-by-requires : (t : ℕ) → grown-lts.Need-grown-by-requires (grown-calls t) (grown-at t) grown.Post
+grown-grown-by-requires t c κs = (omega (arith, c .before .before .before .before .pre .0), c .before .before .before .before .pre .1)
+
+grown-same-length : (t : ℕ) → grown-lts.Need-same-length (grown-calls t) (grown-at t) grown.Post
+grown-same-length t c = search needs
+
+grown-returns : (t : ℕ) → grown-lts.Need-returns (grown-calls t) (grown-at t) grown.Post
+grown-returns t c = c .before .before .grown-by .ensures
 
 abbrev greedy-Inv-loop : greedy-lts.InvT-loop
 greedy-Inv-loop entries q all depth level work₀ slots₀ work slots =
@@ -1628,10 +1826,10 @@ solve-greedy-requires t c κs =
     (omega (arith, start .pre .0), record { promising = asked .promising; deep = asked .deep; all-asking = asked .all-asking; room = room-kept (c .before .before .before .before .opposed .kept .1 .1 .1 .1 .1 .0 ∙ c .before .before .before .before .before .before .before .before .before .keeps .kept .1 .1 .1 .1 .1 .0) (asked .room); memory = c .before .before .before .before .opposed .ensures .memory })
 
 solve-same-length-5 : (t : ℕ) → solve-lts.Need-same-length-5 (solve-calls t) (solve-at t) solve.Post
-solve-same-length-5 t c = c .before .before .before .before .by-list .kept .1 .1 .1 .1 .1 .0 ∙ c .before .before .before .before .before .before .before .before .before .greedy .kept .1 .1 .1 .1 .1 .0 ∙ c .before .before .before .before .before .before .before .before .before .before .before .before .before .before .opposed .kept .1 .1 .1 .1 .1 .0 ∙ c .before .before .before .before .before .before .before .before .before .before .before .before .before .before .before .before .before .before .before .keeps .kept .1 .1 .1 .1 .1 .0
+solve-same-length-5 t c = c .before .before .before .before .by-lists .kept .1 .1 .1 .1 .1 .0 ∙ c .before .before .before .before .before .before .before .before .before .greedy .kept .1 .1 .1 .1 .1 .0 ∙ c .before .before .before .before .before .before .before .before .before .before .before .before .before .before .opposed .kept .1 .1 .1 .1 .1 .0 ∙ c .before .before .before .before .before .before .before .before .before .before .before .before .before .before .before .before .before .before .before .keeps .kept .1 .1 .1 .1 .1 .0
 
 solve-returns-5 : (t : ℕ) → solve-lts.Need-returns-5 (solve-calls t) (solve-at t) solve.Post
-solve-returns-5 t c = rw (c .enum-told2 .given .1) at (c .before .before .before .before .by-list .ensures)
+solve-returns-5 t c = rw (c .enum-told2 .given .1) at (c .before .before .before .before .by-lists .ensures)
 
 by-list-closed-requires : (t : ℕ) → by-list-lts.Need-closed-requires (by-list-calls t) (by-list-at t) by-list.Post
 by-list-closed-requires t c κs = record { few = c .before .before .pre .1 .promising .few; below = c .before .before .pre .1 .promising .below }
@@ -1671,8 +1869,7 @@ by-list-selected-requires t c κs =
       deep = asked .deep;
       room = room-kept (c .before .before .before .before .before .before .largest .kept .1 .1 .1 .1 .1 .1 .1 .0) (asked .room);
       memory = listed .memory;
-      some = listed .lists .some;
-      covers = listing-covers (problemOf (a .entries .now) (a .q)) (member (c .before .before .before .before .before .before .before .before .before .intersection .result)) (member (c .before .before .before .before .before .before .before .before .minus .result)) (a .work .now) (c .before .before .before .before .before .before .largest .last .1 .1 .1 .1 .1 .1 .1 .0) (base-closed t (c .before .before .before .before .before .before .before .before)) (all-parts t (c .before .before .before .before .before .before .before .before)) listed;
+      lists = listed .lists;
     }
 
 by-list-enum-told : (t : ℕ) → by-list-lts.Need-enum-told (by-list-calls t) (by-list-at t) by-list.Post
@@ -1688,7 +1885,11 @@ by-list-same-length-2 : (t : ℕ) → by-list-lts.Need-same-length-2 (by-list-ca
 by-list-same-length-2 t c = c .before .before .before .selected .kept .1 .1 .1 .1 .1 .1 .0 ∙ c .before .before .before .before .before .before .before .before .before .before .largest .kept .1 .1 .1 .1 .1 .1 .1 .0
 
 by-list-returns-2 : (t : ℕ) → by-list-lts.Need-returns-2 (by-list-calls t) (by-list-at t) by-list.Post
-by-list-returns-2 t c = (rw (c .if1 .left) at (c .before .before .before .selected .ensures .0), c .before .before .before .selected .ensures .1)
+by-list-returns-2 t c =
+    let a = c .before .before .before .before .before .before .before .before .before .before .before .before .before .before .before .before .before .args in
+    let listed = rw (c .before .before .before .before .before .before .k .given .1) at (c .before .before .before .before .before .before .before .before .before .before .largest .ensures) in
+    let covers = listing-covers (problemOf (a .entries .now) (a .q)) (member (c .before .before .before .before .before .before .before .before .before .before .before .before .before .intersection .result)) (member (c .before .before .before .before .before .before .before .before .before .before .before .before .minus .result)) (a .work .now) (c .before .before .before .before .before .before .before .before .before .before .largest .last .1 .1 .1 .1 .1 .1 .1 .0) (base-closed t (c .before .before .before .before .before .before .before .before .before .before .before .before)) (all-parts t (c .before .before .before .before .before .before .before .before .before .before .before .before)) listed in
+    (rw (c .if1 .left) at (c .before .before .before .selected .ensures .0) covers, c .before .before .before .selected .ensures .1)
 
 by-list-same-length-3 : (t : ℕ) → by-list-lts.Need-same-length-3 (by-list-calls t) (by-list-at t) by-list.Post
 by-list-same-length-3 t c = c .before .before .before .before .largest .kept .1 .1 .1 .1 .1 .1 .1 .0
@@ -1696,27 +1897,186 @@ by-list-same-length-3 t c = c .before .before .before .before .largest .kept .1 
 by-list-returns-3 : (t : ℕ) → by-list-lts.Need-returns-3 (by-list-calls t) (by-list-at t) by-list.Post
 by-list-returns-3 t c = (tt, rw (c .enum-told .given .1) at (c .before .before .before .before .largest .ensures))
 
-past-list-weighed-requires : (t : ℕ) → past-list-lts.Need-weighed-requires (past-list-calls t) (past-list-at t) past-list.Post
-past-list-weighed-requires t c κs =
-    let asked = c .before .before .before .pre .1 in
-    record { problem = record { few = asked .promising .few; below = asked .promising .below }; room = asked .room; memory = asked .memory }
+solve-by-lists-requires : (t : ℕ) → solve-lts.Need-by-lists-requires (solve-calls t) (solve-at t) solve.Post
+solve-by-lists-requires t c κs =
+    let start = (c .before .before .before .before .before .before .before .before .before .before .before .before .before .before .before .before .before .before) in
+    let asked = start .pre .1 in
+    (omega (arith, start .pre .0), record { promising = asked .promising; deep = asked .deep; all-asking = asked .all-asking; room = room-kept (c .before .before .before .before .greedy .kept .1 .1 .1 .1 .1 .0 ∙ c .before .before .before .before .before .before .before .before .before .opposed .kept .1 .1 .1 .1 .1 .0 ∙ c .before .before .before .before .before .before .before .before .before .before .before .before .before .before .keeps .kept .1 .1 .1 .1 .1 .0) (asked .room); memory = c .before .before .before .before .greedy .ensures .memory })
 
-past-list-narrowed-requires : (t : ℕ) → past-list-lts.Need-narrowed-requires (past-list-calls t) (past-list-at t) past-list.Post
-past-list-narrowed-requires t c κs = search needs
+solve-enum-told-2 : (t : ℕ) → solve-lts.Need-enum-told-2 (solve-calls t) (solve-at t) solve.Post
+solve-enum-told-2 t c = search needs
+
+solve-enum-told-3 : (t : ℕ) → solve-lts.Need-enum-told-3 (solve-calls t) (solve-at t) solve.Post
+solve-enum-told-3 t c = search needs
+
+solve-by-asking-requires : (t : ℕ) → solve-lts.Need-by-asking-requires (solve-calls t) (solve-at t) solve.Post
+solve-by-asking-requires t c κs =
+    let start = (c .before .before .before .before .before .before .before .before .before .before .before .before .before .before .before .before .before .before .before .before .before .before .before .before) in
+    let asked = start .pre .1 in
+    (omega (arith, start .pre .0), record { promising = asked .promising; deep = asked .deep; all-asking = asked .all-asking; room = room-kept (c .before .before .before .before .before .by-lists .kept .1 .1 .1 .1 .1 .0 ∙ c .before .before .before .before .before .before .before .before .before .before .greedy .kept .1 .1 .1 .1 .1 .0 ∙ c .before .before .before .before .before .before .before .before .before .before .before .before .before .before .before .opposed .kept .1 .1 .1 .1 .1 .0 ∙ c .before .before .before .before .before .before .before .before .before .before .before .before .before .before .before .before .before .before .before .before .keeps .kept .1 .1 .1 .1 .1 .0) (asked .room); memory = c .before .before .before .before .before .by-lists .ensures .1 })
+
+solve-same-length-6 : (t : ℕ) → solve-lts.Need-same-length-6 (solve-calls t) (solve-at t) solve.Post
+solve-same-length-6 t c = c .before .before .by-asking .kept .1 .1 .1 .1 .1 .0 ∙ c .before .before .before .before .before .before .before .before .by-lists .kept .1 .1 .1 .1 .1 .0 ∙ c .before .before .before .before .before .before .before .before .before .before .before .before .before .greedy .kept .1 .1 .1 .1 .1 .0 ∙ c .before .before .before .before .before .before .before .before .before .before .before .before .before .before .before .before .before .before .opposed .kept .1 .1 .1 .1 .1 .0 ∙ c .before .before .before .before .before .before .before .before .before .before .before .before .before .before .before .before .before .before .before .before .before .before .before .keeps .kept .1 .1 .1 .1 .1 .0
+
+solve-returns-6 : (t : ℕ) → solve-lts.Need-returns-6 (solve-calls t) (solve-at t) solve.Post
+solve-returns-6 t c = c .before .before .by-asking .ensures
+
+-- ---- relation
+
+relation-narrowed-requires : (t : ℕ) → relation-lts.Need-narrowed-requires (relation-calls t) (relation-at t) relation.Post
+relation-narrowed-requires t c κs = search needs
+
+relation-add-from : (t : ℕ) → relation-lts.Need-add-from (relation-calls t) (relation-at t) relation.Post
+relation-add-from t c = omega (arith, room-depth (c .before .before .before .before .before .pre .1 .problem .room), c .before .before .before .before .before .good .1 .1 .1 .1 .1 .0)
+
+relation-mul-from : (t : ℕ) → relation-lts.Need-mul-from (relation-calls t) (relation-at t) relation.Post
+relation-mul-from t c = record { fits = from-fits (c .before .before .before .before .before .pre .1 .problem .room) (omega (arith, c .before .before .before .before .before .good .1 .1 .1 .1 .1 .0)) }
+
+relation-recall-requires : (t : ℕ) → relation-lts.Need-recall-requires (relation-calls t) (relation-at t) relation.Post
+relation-recall-requires t c κs = search needs
+
+relation-enum-known-known : (t : ℕ) → relation-lts.Need-enum-known-known (relation-calls t) (relation-at t) relation.Post
+relation-enum-known-known t c = search needs
+
+relation-same-length : (t : ℕ) → relation-lts.Need-same-length (relation-calls t) (relation-at t) relation.Post
+relation-same-length t c = search needs
+
+relation-returns : (t : ℕ) → relation-lts.Need-returns (relation-calls t) (relation-at t) relation.Post
+relation-returns t c =
+    let start = (c .before .before .before .before .before .before .before .before .before .before) in
+    let a = start .args in
+    let asked = start .pre .1 in (
+      relation-recalled (a .entries .now) asked (c .before .before .before .before .before .before .before .narrowed .ensures) (c .before .known .given .0 .0) (rw (c .before .known .given .1) at (c .before .before .before .recall .ensures (wideAt (a .entries .now)) (memory-from (wideAt (a .entries .now)) (a .depth) (a .level) (a .work .now) (asked .problem .memory)))),
+      asked .problem .memory,
+    )
+
+relation-enum-told : (t : ℕ) → relation-lts.Need-enum-told (relation-calls t) (relation-at t) relation.Post
+relation-enum-told t c = search needs
+
+relation-solve-requires : (t : ℕ) → relation-lts.Need-solve-requires (relation-calls t) (relation-at t) relation.Post
+relation-solve-requires t c κs = (omega (arith, c .before .before .before .before .before .before .before .before .before .before .pre .0), c .before .before .before .before .before .before .before .before .before .before .pre .1 .problem)
+
+relation-remember-requires : (t : ℕ) → relation-lts.Need-remember-requires (relation-calls t) (relation-at t) relation.Post
+relation-remember-requires t c κs = search needs
+
+relation-same-length-2 : (t : ℕ) → relation-lts.Need-same-length-2 (relation-calls t) (relation-at t) relation.Post
+relation-same-length-2 t c = search needs
+
+relation-returns-2 : (t : ℕ) → relation-lts.Need-returns-2 (relation-calls t) (relation-at t) relation.Post
+relation-returns-2 t c =
+    let start = (c .before .before .before .before .before .before .before .before .before .before .before .before .before .before .before .before .before) in
+    let a = start .args in
+    let entry = wideAt (a .entries .now) in
+    let mid = c .before .before .before .before .before .before .solve .last .1 .1 .1 .1 .1 .0 in
+    let after = c .before .before .remember .last .0 in (
+      c .before .before .before .before .before .before .solve .ensures .0,
+      memory-to entry (a .depth) (a .level) after
+          (c .before .before .remember .ensures .memory entry (memory-from entry (a .depth) (a .level) mid (c .before .before .before .before .before .before .solve .ensures .1)) (relation-told (a .entries .now) (start .pre .1) (c .before .before .before .before .before .before .before .before .before .before .before .before .before .before .narrowed .ensures) (c .before .before .before .before .before .before .solve .result) (c .before .before .before .before .before .before .solve .ensures .0))),
+    )
+
+-- ---- lists
+
+by-lists-is-short-requires : (t : ℕ) → by-lists-lts.Need-is-short-requires (by-lists-calls t) (by-lists-at t) by-lists.Post
+by-lists-is-short-requires t c κs = search needs
+
+by-lists-said-by-requires : (t : ℕ) → by-lists-lts.Need-said-by-requires (by-lists-calls t) (by-lists-at t) by-lists.Post
+by-lists-said-by-requires t c κs = (omega (arith, c .before .before .before .before .pre .0), c .before .before .before .before .pre .1)
+
+by-lists-enum-told : (t : ℕ) → by-lists-lts.Need-enum-told (by-lists-calls t) (by-lists-at t) by-lists.Post
+by-lists-enum-told t c = search needs
+
+by-lists-enum-told-2 : (t : ℕ) → by-lists-lts.Need-enum-told-2 (by-lists-calls t) (by-lists-at t) by-lists.Post
+by-lists-enum-told-2 t c = search needs
+
+by-lists-enum-told-3 : (t : ℕ) → by-lists-lts.Need-enum-told-3 (by-lists-calls t) (by-lists-at t) by-lists.Post
+by-lists-enum-told-3 t c = search needs
+
+by-lists-said-by-requires-2 : (t : ℕ) → by-lists-lts.Need-said-by-requires-2 (by-lists-calls t) (by-lists-at t) by-lists.Post
+by-lists-said-by-requires-2 t c κs =
+    let start = (c .before .before .before .before .before .before .before .before .before .before) in
+    let asked = start .pre .1 in
+    (omega (arith, start .pre .0), record { promising = asked .promising; deep = asked .deep; all-asking = asked .all-asking; room = room-kept (c .before .before .before .before .before .said-by .kept .1 .1 .1 .1 .1 .1 .0) (asked .room); memory = c .before .before .before .before .before .said-by .ensures .1 })
+
+by-lists-same-length : (t : ℕ) → by-lists-lts.Need-same-length (by-lists-calls t) (by-lists-at t) by-lists.Post
+by-lists-same-length t c = c .before .before .before .before .said-by .kept .1 .1 .1 .1 .1 .1 .0
+
+by-lists-returns : (t : ℕ) → by-lists-lts.Need-returns (by-lists-calls t) (by-lists-at t) by-lists.Post
+by-lists-returns t c = rw (c .enum-told .given .1) at (c .before .before .before .before .said-by .ensures)
+
+by-lists-same-length-2 : (t : ℕ) → by-lists-lts.Need-same-length-2 (by-lists-calls t) (by-lists-at t) by-lists.Post
+by-lists-same-length-2 t c = c .before .before .before .before .said-by .kept .1 .1 .1 .1 .1 .1 .0
+
+by-lists-returns-2 : (t : ℕ) → by-lists-lts.Need-returns-2 (by-lists-calls t) (by-lists-at t) by-lists.Post
+by-lists-returns-2 t c = rw (c .enum-told2 .given .1) at (c .before .before .before .before .said-by .ensures)
+
+by-lists-same-length-3 : (t : ℕ) → by-lists-lts.Need-same-length-3 (by-lists-calls t) (by-lists-at t) by-lists.Post
+by-lists-same-length-3 t c = c .before .before .said-by2 .kept .1 .1 .1 .1 .1 .1 .0 ∙ c .before .before .before .before .before .before .before .before .said-by .kept .1 .1 .1 .1 .1 .1 .0
+
+by-lists-returns-3 : (t : ℕ) → by-lists-lts.Need-returns-3 (by-lists-calls t) (by-lists-at t) by-lists.Post
+by-lists-returns-3 t c = c .before .before .said-by2 .ensures
+
+said-by-by-list-requires : (t : ℕ) → said-by-lts.Need-by-list-requires (said-by-calls t) (said-by-at t) said-by.Post
+said-by-by-list-requires t c κs = (omega (arith, c .before .before .before .before .pre .0), c .before .before .before .before .pre .1)
+
+said-by-by-columns-requires : (t : ℕ) → said-by-lts.Need-by-columns-requires (said-by-calls t) (said-by-at t) said-by.Post
+said-by-by-columns-requires t c κs = (omega (arith, c .before .before .before .before .pre .0), c .before .before .before .before .pre .1)
+
+said-by-same-length : (t : ℕ) → said-by-lts.Need-same-length (said-by-calls t) (said-by-at t) said-by.Post
+said-by-same-length t c = search needs
+
+said-by-returns : (t : ℕ) → said-by-lts.Need-returns (said-by-calls t) (said-by-at t) said-by.Post
+said-by-returns t c = c .before .before .by-list .ensures
+
+said-by-same-length-2 : (t : ℕ) → said-by-lts.Need-same-length-2 (said-by-calls t) (said-by-at t) said-by.Post
+said-by-same-length-2 t c = search needs
+
+said-by-returns-2 : (t : ℕ) → said-by-lts.Need-returns-2 (said-by-calls t) (said-by-at t) said-by.Post
+said-by-returns-2 t c = c .before .before .by-columns .ensures
+
+by-columns-columns-requires : (t : ℕ) → by-columns-lts.Need-columns-requires (by-columns-calls t) (by-columns-at t) by-columns.Post
+by-columns-columns-requires t c κs = (omega (arith, c .before .before .before .pre .0), c .before .before .before .pre .1)
+
+by-columns-enum-known-k : (t : ℕ) → by-columns-lts.Need-enum-known-k (by-columns-calls t) (by-columns-at t) by-columns.Post
+by-columns-enum-known-k t c = search needs
+
+by-columns-selected-requires : (t : ℕ) → by-columns-lts.Need-selected-requires (by-columns-calls t) (by-columns-at t) by-columns.Post
+by-columns-selected-requires t c κs =
+    let asked = c .before .before .before .before .before .before .before .before .before .before .pre .1 in
+    let guess = rw (c .before .before .k .given .1) at (c .before .before .before .before .before .before .columns .ensures) in
+    record {
+      problem = record { few = asked .promising .few; below = asked .promising .below };
+      all-asking = asked .all-asking;
+      deep = asked .deep;
+      room = room-kept (c .before .before .before .before .before .before .columns .kept .1 .1 .1 .1 .1 .0) (asked .room);
+      memory = guess .memory;
+      lists = guess .lists;
+    }
+
+by-columns-same-length : (t : ℕ) → by-columns-lts.Need-same-length (by-columns-calls t) (by-columns-at t) by-columns.Post
+by-columns-same-length t c = c .before .before .before .selected .kept .1 .1 .1 .1 .1 .1 .0 ∙ c .before .before .before .before .before .before .before .before .before .before .columns .kept .1 .1 .1 .1 .1 .0
+
+by-columns-returns : (t : ℕ) → by-columns-lts.Need-returns (by-columns-calls t) (by-columns-at t) by-columns.Post
+by-columns-returns t c = (rw (c .if1 .taken) at (c .before .before .before .selected .ensures .0), c .before .before .before .selected .ensures .1)
+
+by-columns-enum-known-s : (t : ℕ) → by-columns-lts.Need-enum-known-s (by-columns-calls t) (by-columns-at t) by-columns.Post
+by-columns-enum-known-s t c = search needs
+
+by-columns-narrowed-requires : (t : ℕ) → by-columns-lts.Need-narrowed-requires (by-columns-calls t) (by-columns-at t) by-columns.Post
+by-columns-narrowed-requires t c κs = search needs
 
 -- the part of the problem
-part-fewer : (t : ℕ) (c : past-list-lts.After-narrowed (past-list-calls t) (past-list-at t) past-list.Post) → (b : Bool)
-    → Within (wanted (member (c .narrowed .result .yes)) (member (c .narrowed .result .no)) b) (wanted (member (c .before .before .before .before .before .before .before .args .q .yes)) (member (c .before .before .before .before .before .before .before .args .q .no)) b)
+part-fewer : (t : ℕ) (c : by-columns-lts.After-narrowed (by-columns-calls t) (by-columns-at t) by-columns.Post) → (b : Bool)
+    → Within (wanted (member (c .narrowed .result .yes)) (member (c .narrowed .result .no)) b) (wanted (member (c .before .before .before .before .before .before .before .before .before .before .args .q .yes)) (member (c .before .before .before .before .before .before .before .before .before .before .args .q .no)) b)
 part-fewer t c = narrowed-fewer (c .narrowed .ensures)
 
-past-list-asking-requires : (t : ℕ) → past-list-lts.Need-asking-requires (past-list-calls t) (past-list-at t) past-list.Post
-past-list-asking-requires t c κs =
-    let promising = c .before .before .before .before .before .before .before .pre .1 .promising in
+by-columns-asking-requires : (t : ℕ) → by-columns-lts.Need-asking-requires (by-columns-calls t) (by-columns-at t) by-columns.Post
+by-columns-asking-requires t c κs =
+    let promising = c .before .before .before .before .before .before .before .before .before .before .pre .1 .promising in
     record { few = promising .few; below = λ b i h. promising .below b i (part-fewer t c b i h) }
 
-past-list-by-list-requires : (t : ℕ) → past-list-lts.Need-by-list-requires (past-list-calls t) (past-list-at t) past-list.Post
-past-list-by-list-requires t c κs =
-    let start = (c .before .before .before .before .before .before .before .before .before) in
+by-columns-by-list-requires : (t : ℕ) → by-columns-lts.Need-by-list-requires (by-columns-calls t) (by-columns-at t) by-columns.Post
+by-columns-by-list-requires t c κs =
+    let start = (c .before .before .before .before .before .before .before .before .before .before .before .before) in
     let asked = start .pre .1 in (
       omega (arith, start .pre .0),
       record {
@@ -1729,78 +2089,299 @@ past-list-by-list-requires t c κs =
         };
         deep = asked .deep;
         all-asking = c .before .asking .ensures;
-        room = room-kept (c .before .before .before .before .before .weighed .kept .1 .1 .1 .1 .0) (asked .room);
-        memory = c .before .before .before .before .before .weighed .ensures;
+        room = room-kept (c .before .before .before .before .before .before .before .before .columns .kept .1 .1 .1 .1 .1 .0) (asked .room);
+        memory = rw (c .before .before .before .before .s .given .1) at (c .before .before .before .before .before .before .before .before .columns .ensures);
       },
     )
 
-past-list-enum-told : (t : ℕ) → past-list-lts.Need-enum-told (past-list-calls t) (past-list-at t) past-list.Post
-past-list-enum-told t c = search needs
+by-columns-enum-told : (t : ℕ) → by-columns-lts.Need-enum-told (by-columns-calls t) (by-columns-at t) by-columns.Post
+by-columns-enum-told t c = search needs
 
-past-list-same-length : (t : ℕ) → past-list-lts.Need-same-length (past-list-calls t) (past-list-at t) past-list.Post
-past-list-same-length t c = c .before .before .before .before .by-list .kept .1 .1 .1 .1 .1 .0 ∙ c .before .before .before .before .before .before .before .before .before .before .weighed .kept .1 .1 .1 .1 .0
+by-columns-enum-told-2 : (t : ℕ) → by-columns-lts.Need-enum-told-2 (by-columns-calls t) (by-columns-at t) by-columns.Post
+by-columns-enum-told-2 t c = search needs
 
-past-list-returns : (t : ℕ) → past-list-lts.Need-returns (past-list-calls t) (past-list-at t) past-list.Post
-past-list-returns t c =
-    let a = c .before .before .before .before .before .before .before .before .before .before .before .before .before .before .args in (
+by-columns-same-length-2 : (t : ℕ) → by-columns-lts.Need-same-length-2 (by-columns-calls t) (by-columns-at t) by-columns.Post
+by-columns-same-length-2 t c = c .before .before .before .selected .kept .1 .1 .1 .1 .1 .1 .0 ∙ c .before .before .before .before .before .before .before .before .before .before .columns .kept .1 .1 .1 .1 .1 .0
+
+by-columns-returns-2 : (t : ℕ) → by-columns-lts.Need-returns-2 (by-columns-calls t) (by-columns-at t) by-columns.Post
+by-columns-returns-2 t c = (tt, c .before .before .before .selected .ensures .1)
+
+by-columns-same-length-3 : (t : ℕ) → by-columns-lts.Need-same-length-3 (by-columns-calls t) (by-columns-at t) by-columns.Post
+by-columns-same-length-3 t c = c .before .before .before .before .by-list .kept .1 .1 .1 .1 .1 .0 ∙ c .before .before .before .before .before .before .before .before .before .before .before .before .before .columns .kept .1 .1 .1 .1 .1 .0
+
+by-columns-returns-3 : (t : ℕ) → by-columns-lts.Need-returns-3 (by-columns-calls t) (by-columns-at t) by-columns.Post
+by-columns-returns-3 t c =
+    let a = c .before .before .before .before .before .before .before .before .before .before .before .before .before .before .before .before .before .args in (
       λ s. (rw (c .enum-told .given .1) at (c .before .before .before .before .by-list .ensures .0)) (narrowed-solvable (a .entries .now) (c .before .before .before .before .before .before .before .narrowed .ensures) s),
       c .before .before .before .before .by-list .ensures .1,
     )
 
-past-list-by-asking-requires : (t : ℕ) → past-list-lts.Need-by-asking-requires (past-list-calls t) (past-list-at t) past-list.Post
-past-list-by-asking-requires t c κs =
-    let start = (c .before .before .before .before .before .before .before .before .before .before .before .before .before .before) in
+by-columns-same-length-4 : (t : ℕ) → by-columns-lts.Need-same-length-4 (by-columns-calls t) (by-columns-at t) by-columns.Post
+by-columns-same-length-4 t c = c .before .before .before .by-list .kept .1 .1 .1 .1 .1 .0 ∙ c .before .before .before .before .before .before .before .before .before .before .before .before .columns .kept .1 .1 .1 .1 .1 .0
+
+by-columns-returns-4 : (t : ℕ) → by-columns-lts.Need-returns-4 (by-columns-calls t) (by-columns-at t) by-columns.Post
+by-columns-returns-4 t c = (tt, c .before .before .before .by-list .ensures .1)
+
+by-columns-same-length-5 : (t : ℕ) → by-columns-lts.Need-same-length-5 (by-columns-calls t) (by-columns-at t) by-columns.Post
+by-columns-same-length-5 t c = c .before .before .before .before .columns .kept .1 .1 .1 .1 .1 .0
+
+by-columns-returns-5 : (t : ℕ) → by-columns-lts.Need-returns-5 (by-columns-calls t) (by-columns-at t) by-columns.Post
+by-columns-returns-5 t c = (tt, rw (c .enum-told2 .given .1) at (c .before .before .before .before .columns .ensures))
+
+abbrev columns-Inv-loop : columns-lts.InvT-loop
+columns-Inv-loop entries q all depth level work₀ k₀ work k =
+    Lists (problemOf entries q) k level work × (length work ≡ length work₀) × Remembers (wideAt entries) depth level work
+
+abbrev columns-μ-loop : columns-lts.MeasureT-loop
+columns-μ-loop entries q all depth level work₀ k₀ work k = listRoom (length entries) - k
+
+columns-loop-holds : (t : ℕ) → columns-lts.Need-loop-holds (columns-calls t) (columns-at t) columns.Post columns-Inv-loop columns-μ-loop
+columns-loop-holds t c = let a = c .before .before .args in (lists-none (problemOf (a .entries .now) (a .q)) (a .level) (a .work .now), refl, c .before .before .pre .1 .memory)
+
+columns-weighs-requires : (t : ℕ) → columns-lts.Need-weighs-requires (columns-calls t) (columns-at t) columns.Post columns-Inv-loop columns-μ-loop
+columns-weighs-requires t c κs =
+    let asked = c .before .before .before .before .pre .1 in
+    record { problem = record { few = asked .promising .few; below = asked .promising .below }; room = room-kept (c .before .loop .inv .1) (asked .room); memory = c .before .loop .inv .2; lists = c .before .loop .inv .0 }
+
+columns-same-length : (t : ℕ) → columns-lts.Need-same-length (columns-calls t) (columns-at t) columns.Post columns-Inv-loop columns-μ-loop
+columns-same-length t c = c .before .before .before .weighs .kept .1 .1 .1 .1 .1 .0 ∙ c .before .before .before .before .before .loop .inv .1
+
+columns-returns : (t : ℕ) → columns-lts.Need-returns (columns-calls t) (columns-at t) columns.Post columns-Inv-loop columns-μ-loop
+columns-returns t c = c .before .before .before .weighs .ensures
+
+columns-prices-behind-requires : (t : ℕ) → columns-lts.Need-prices-behind-requires (columns-calls t) (columns-at t) columns.Post columns-Inv-loop columns-μ-loop
+columns-prices-behind-requires t c κs =
+    let a = c .before .before .before .before .before .before .before .before .before .args in
+    let asked = c .before .before .before .before .before .before .before .before .before .pre .1 in
+    room-placed (problemOf (a .entries .now) (a .q)) (asked .promising .few) (room-kept (c .before .before .before .before .weighs .kept .1 .1 .1 .1 .1 .0 ∙ c .before .before .before .before .before .before .loop .inv .1) (asked .room)) (c .before .before .before .before .weighs .ensures .lists .some)
+
+columns-column-requires : (t : ℕ) → columns-lts.Need-column-requires (columns-calls t) (columns-at t) columns.Post columns-Inv-loop columns-μ-loop
+columns-column-requires t c κs =
+    let start = (c .before .before .before .before .before .before .before .before .before .before .before) in
     let asked = start .pre .1 in
-    (omega (arith, start .pre .0), record { promising = asked .promising; deep = asked .deep; all-asking = asked .all-asking; room = room-kept (c .before .before .before .before .by-list .kept .1 .1 .1 .1 .1 .0 ∙ c .before .before .before .before .before .before .before .before .before .before .weighed .kept .1 .1 .1 .1 .0) (asked .room); memory = c .before .before .before .before .by-list .ensures .1 })
+    (omega (arith, start .pre .0), record { promising = asked .promising; deep = asked .deep; all-asking = asked .all-asking; room = room-kept (c .before .before .before .before .before .before .weighs .kept .1 .1 .1 .1 .1 .0 ∙ c .before .before .before .before .before .before .before .before .loop .inv .1) (asked .room); memory = c .before .before .before .before .before .before .weighs .ensures .memory })
 
-past-list-same-length-2 : (t : ℕ) → past-list-lts.Need-same-length-2 (past-list-calls t) (past-list-at t) past-list.Post
-past-list-same-length-2 t c = c .before .before .by-asking .kept .1 .1 .1 .1 .1 .0 ∙ c .before .before .before .before .before .before .before .by-list .kept .1 .1 .1 .1 .1 .0 ∙ c .before .before .before .before .before .before .before .before .before .before .before .before .before .weighed .kept .1 .1 .1 .1 .0
+columns-pays-requires : (t : ℕ) → columns-lts.Need-pays-requires (columns-calls t) (columns-at t) columns.Post columns-Inv-loop columns-μ-loop
+columns-pays-requires t c κs = search needs
 
-past-list-returns-2 : (t : ℕ) → past-list-lts.Need-returns-2 (past-list-calls t) (past-list-at t) past-list.Post
-past-list-returns-2 t c = c .before .before .by-asking .ensures
+columns-weighted-requires : (t : ℕ) → columns-lts.Need-weighted-requires (columns-calls t) (columns-at t) columns.Post columns-Inv-loop columns-μ-loop
+columns-weighted-requires t c κs = search needs
 
-solve-by-list-requires : (t : ℕ) → solve-lts.Need-by-list-requires (solve-calls t) (solve-at t) solve.Post
-solve-by-list-requires t c κs =
-    let start = (c .before .before .before .before .before .before .before .before .before .before .before .before .before .before .before .before .before .before) in
+columns-same-length-2 : (t : ℕ) → columns-lts.Need-same-length-2 (columns-calls t) (columns-at t) columns.Post columns-Inv-loop columns-μ-loop
+columns-same-length-2 t c = c .before .before .before .before .before .column .kept .1 .1 .1 .1 .1 .1 .0 ∙ c .before .before .before .before .before .before .before .before .before .before .before .before .weighs .kept .1 .1 .1 .1 .1 .0 ∙ c .before .before .before .before .before .before .before .before .before .before .before .before .before .before .loop .inv .1
+
+columns-returns-2 : (t : ℕ) → columns-lts.Need-returns-2 (columns-calls t) (columns-at t) columns.Post columns-Inv-loop columns-μ-loop
+columns-returns-2 t c = c .before .before .before .before .before .column .ensures .memory
+
+columns-also-requires : (t : ℕ) → columns-lts.Need-also-requires (columns-calls t) (columns-at t) columns.Post columns-Inv-loop columns-μ-loop
+columns-also-requires t c κs =
+    let a = c .before .before .before .before .before .before .before .before .before .before .before .before .before .before .before .before .before .args in
+    let asked = c .before .before .before .before .before .before .before .before .before .before .before .before .before .before .before .before .before .pre .1 in
+    room-placed (problemOf (a .entries .now) (a .q)) (asked .promising .few) (room-kept (c .before .before .before .before .before .column .kept .1 .1 .1 .1 .1 .1 .0 ∙ c .before .before .before .before .before .before .before .before .before .before .before .before .weighs .kept .1 .1 .1 .1 .1 .0 ∙ c .before .before .before .before .before .before .before .before .before .before .before .before .before .before .loop .inv .1) (asked .room)) (c .before .before .before .before .before .before .before .before .before .before .before .before .weighs .ensures .lists .some)
+
+-- the set can be kept, and is listed or not
+column-listed : (t : ℕ) (c : columns-lts.After-also (columns-calls t) (columns-at t) columns.Post columns-Inv-loop columns-μ-loop)
+    → ListingIs (problemOf (c .before .before .before .before .before .before .before .before .before .before .before .before .before .before .before .before .before .before .args .entries .now) (c .before .before .before .before .before .before .before .before .before .before .before .before .before .before .before .before .before .before .args .q)) nothing (member (c .before .before .before .before .before .before .column .result)) (c .before .before .before .before .before .before .before .before .before .before .before .before .before .before .before .loop .k) (c .before .before .before .before .before .before .before .before .before .before .before .before .before .before .before .before .before .before .args .depth) (c .before .before .before .before .before .before .before .before .before .before .before .before .before .before .before .before .before .before .args .level) (c .before .before .before .before .before .before .column .last .1 .1 .1 .1 .1 .1 .0) (c .also .last .1 .1 .1 .1 .0) (c .also .result)
+column-listed t c =
+    let a = c .before .before .before .before .before .before .before .before .before .before .before .before .before .before .before .before .before .before .args in
+    let asked = c .before .before .before .before .before .before .before .before .before .before .before .before .before .before .before .before .before .before .pre .1 in
+    let Q = problemOf (a .entries .now) (a .q) in
+    let room : listRoom (length (a .entries .now)) ≤ a .level = omega (arith, asked .room .stack) in
+    let grown = c .before .before .before .before .before .before .column .ensures in
+    listing-also Q nothing (member (c .before .before .before .before .before .before .column .result)) (a .depth) (a .level) (c .before .before .before .before .before .before .column .last .1 .1 .1 .1 .1 .1 .0) (c .also .last .1 .1 .1 .1 .0) (code (c .before .before .before .before .before .before .column .result)) room
+    (lists-kept Q room (c .before .before .before .before .before .before .before .before .before .before .before .before .before .weighs .last .1 .1 .1 .1 .1 .0) (c .before .before .before .before .before .before .column .last .1 .1 .1 .1 .1 .1 .0) (grown .same) (c .before .before .before .before .before .before .before .before .before .before .before .before .before .weighs .ensures .lists)) (grown .memory)
+    (⊎-elim (λ (none : member (c .before .before .before .before .before .before .column .result) ≡ nothing). absurd (c .before .before .before .pays .ensures (not-false (c .before .before .before .pays .result) (c .before .before .if2 .left)) none)) (λ (fit : Fit Q (code (c .before .before .before .before .before .before .column .result))). fit) (grown .fit))
+    (code-above (c .before .before .before .before .before .before .column .result) refl) (c .also .result) (c .also .ensures)
+
+columns-enum-known-more : (t : ℕ) → columns-lts.Need-enum-known-more (columns-calls t) (columns-at t) columns.Post columns-Inv-loop columns-μ-loop
+columns-enum-known-more t c = search needs
+
+columns-loop-less : (t : ℕ) → columns-lts.Need-loop-less (columns-calls t) (columns-at t) columns.Post columns-Inv-loop columns-μ-loop
+columns-loop-less t c = let listed = rw (c .before .more .given .1) at (c .before .before .before .before .before .also .ensures) in omega (arith, listed .0, listed .1)
+
+columns-loop-again : (t : ℕ) → columns-lts.Need-loop-again (columns-calls t) (columns-at t) columns.Post columns-Inv-loop columns-μ-loop
+columns-loop-again t c =
+    let listed = rw (c .before .more .given .1) at (column-listed t (c .before .before .before .before .before)) in
+    (listed .lists, c .before .before .before .before .before .also .kept .1 .1 .1 .1 .0 ∙ c .before .before .before .before .before .before .before .before .before .before .before .column .kept .1 .1 .1 .1 .1 .1 .0 ∙ c .before .before .before .before .before .before .before .before .before .before .before .before .before .before .before .before .before .before .weighs .kept .1 .1 .1 .1 .1 .0 ∙ c .before .before .before .before .before .before .before .before .before .before .before .before .before .before .before .before .before .before .before .before .loop .inv .1, listed .memory)
+
+columns-enum-told : (t : ℕ) → columns-lts.Need-enum-told (columns-calls t) (columns-at t) columns.Post columns-Inv-loop columns-μ-loop
+columns-enum-told t c = search needs
+
+columns-same-length-3 : (t : ℕ) → columns-lts.Need-same-length-3 (columns-calls t) (columns-at t) columns.Post columns-Inv-loop columns-μ-loop
+columns-same-length-3 t c = c .before .before .before .before .also .kept .1 .1 .1 .1 .0 ∙ c .before .before .before .before .before .before .before .before .before .before .column .kept .1 .1 .1 .1 .1 .1 .0 ∙ c .before .before .before .before .before .before .before .before .before .before .before .before .before .before .before .before .before .weighs .kept .1 .1 .1 .1 .1 .0 ∙ c .before .before .before .before .before .before .before .before .before .before .before .before .before .before .before .before .before .before .before .loop .inv .1
+
+columns-returns-3 : (t : ℕ) → columns-lts.Need-returns-3 (columns-calls t) (columns-at t) columns.Post columns-Inv-loop columns-μ-loop
+columns-returns-3 t c = rw (c .enum-told .given .1) at (column-listed t (c .before .before .before .before))
+
+abbrev column-Inv-loop : column-lts.InvT-loop
+column-Inv-loop entries q all prices depth level work₀ low set₀ rest₀ work set rest =
+    Within (member set) (asking (problemOf entries q)) × FitIfAny (problemOf entries q) set × Within (member rest) (member all) × (length work ≡ length work₀) × (take level work ≡ take level work₀) × Remembers (wideAt entries) depth level work
+
+abbrev column-μ-loop : column-lts.MeasureT-loop
+column-μ-loop entries q all prices depth level work₀ low set₀ rest₀ work set rest = count (member rest) 64
+
+column-closed-requires : (t : ℕ) → column-lts.Need-closed-requires (column-calls t) (column-at t) column.Post column-Inv-loop column-μ-loop
+column-closed-requires t c κs = record { few = c .before .before .pre .1 .promising .few; below = c .before .before .pre .1 .promising .below }
+
+column-intersection-requires : (t : ℕ) → column-lts.Need-intersection-requires (column-calls t) (column-at t) column.Post column-Inv-loop column-μ-loop
+column-intersection-requires t c κs = search needs
+
+column-empty-requires : (t : ℕ) → column-lts.Need-empty-requires (column-calls t) (column-at t) column.Post column-Inv-loop column-μ-loop
+column-empty-requires t c κs = search needs
+
+column-grown-requires : (t : ℕ) → column-lts.Need-grown-requires (column-calls t) (column-at t) column.Post column-Inv-loop column-μ-loop
+column-grown-requires t c κs =
+    let start = (c .before .before .before .before .before .before) in
     let asked = start .pre .1 in
-    (omega (arith, start .pre .0), record { promising = asked .promising; deep = asked .deep; all-asking = asked .all-asking; room = room-kept (c .before .before .before .before .greedy .kept .1 .1 .1 .1 .1 .0 ∙ c .before .before .before .before .before .before .before .before .before .opposed .kept .1 .1 .1 .1 .1 .0 ∙ c .before .before .before .before .before .before .before .before .before .before .before .before .before .before .keeps .kept .1 .1 .1 .1 .1 .0) (asked .room); memory = c .before .before .before .before .greedy .ensures .memory })
+    let Q = problemOf (start .args .entries .now) (start .args .q) in
+    let nothing-in : Within (member (c .before .empty .result)) (asking Q) = rw (c .before .empty .ensures) (λ i h. absurd (false≢true h)) in
+    let base-in : Within (member (c .before .before .intersection .result)) (asking Q) = λ i h. rw (asked .all-asking) at (both-parts true (member (c .before .before .before .closed .result) i) _ (rw (c .before .before .intersection .ensures) at h) .1) in (
+      omega (arith, start .pre .0),
+      record {
+        promising = promising-of (asked .promising) (either-made (member (c .before .empty .result)) (member (c .before .before .intersection .result)) nothing-in base-in);
+        fit = inl (c .before .empty .ensures);
+        deep = asked .deep;
+        room = asked .room;
+        memory = asked .memory;
+      },
+    )
 
-solve-enum-told-2 : (t : ℕ) → solve-lts.Need-enum-told-2 (solve-calls t) (solve-at t) solve.Post
-solve-enum-told-2 t c = search needs
-
-solve-enum-told-3 : (t : ℕ) → solve-lts.Need-enum-told-3 (solve-calls t) (solve-at t) solve.Post
-solve-enum-told-3 t c = search needs
-
-solve-past-list-requires : (t : ℕ) → solve-lts.Need-past-list-requires (solve-calls t) (solve-at t) solve.Post
-solve-past-list-requires t c κs =
-    let start = (c .before .before .before .before .before .before .before .before .before .before .before .before .before .before .before .before .before .before .before .before .before .before .before .before) in
+column-grown-by-requires : (t : ℕ) → column-lts.Need-grown-by-requires (column-calls t) (column-at t) column.Post column-Inv-loop column-μ-loop
+column-grown-by-requires t c κs =
+    let start = (c .before .before .before .before .before .before .before .before .before .before) in
     let asked = start .pre .1 in
-    (omega (arith, start .pre .0), record { promising = asked .promising; deep = asked .deep; all-asking = asked .all-asking; room = room-kept (c .before .before .before .before .before .by-list .kept .1 .1 .1 .1 .1 .0 ∙ c .before .before .before .before .before .before .before .before .before .before .greedy .kept .1 .1 .1 .1 .1 .0 ∙ c .before .before .before .before .before .before .before .before .before .before .before .before .before .before .before .opposed .kept .1 .1 .1 .1 .1 .0 ∙ c .before .before .before .before .before .before .before .before .before .before .before .before .before .before .before .before .before .before .before .before .keeps .kept .1 .1 .1 .1 .1 .0) (asked .room); memory = c .before .before .before .before .before .by-list .ensures .1 })
+    let low = c .before .before .before .grown .ensures in (
+      omega (arith, start .pre .0),
+      record {
+        promising = promising-of (asked .promising) (either-made (member (c .before .before .before .grown .result)) (member (start .args .all)) (low .promising .within) (λ i h. rw (asked .all-asking) at h));
+        fit = low .fit;
+        deep = asked .deep;
+        room = room-kept (c .before .before .before .grown .kept .1 .1 .1 .1 .1 .1 .0) (asked .room);
+        memory = low .memory;
+      },
+    )
 
-solve-same-length-6 : (t : ℕ) → solve-lts.Need-same-length-6 (solve-calls t) (solve-at t) solve.Post
-solve-same-length-6 t c = c .before .before .past-list .kept .1 .1 .1 .1 .1 .0 ∙ c .before .before .before .before .before .before .before .before .by-list .kept .1 .1 .1 .1 .1 .0 ∙ c .before .before .before .before .before .before .before .before .before .before .before .before .before .greedy .kept .1 .1 .1 .1 .1 .0 ∙ c .before .before .before .before .before .before .before .before .before .before .before .before .before .before .before .before .before .before .opposed .kept .1 .1 .1 .1 .1 .0 ∙ c .before .before .before .before .before .before .before .before .before .before .before .before .before .before .before .before .before .before .before .before .before .before .before .keeps .kept .1 .1 .1 .1 .1 .0
+column-weighted-requires : (t : ℕ) → column-lts.Need-weighted-requires (column-calls t) (column-at t) column.Post column-Inv-loop column-μ-loop
+column-weighted-requires t c κs = search needs
 
-solve-returns-6 : (t : ℕ) → solve-lts.Need-returns-6 (solve-calls t) (solve-at t) solve.Post
-solve-returns-6 t c = c .before .before .past-list .ensures
+column-intersection-requires-2 : (t : ℕ) → column-lts.Need-intersection-requires-2 (column-calls t) (column-at t) column.Post column-Inv-loop column-μ-loop
+column-intersection-requires-2 t c κs = search needs
 
-pub +branches+by-asking+by-list+case-holds+core-of+greedy+grown+keeps+largest+next+opposed+past-list+refuted+relations+solve+split+world-spec :
+column-loop-holds : (t : ℕ) → column-lts.Need-loop-holds (column-calls t) (column-at t) column.Post column-Inv-loop column-μ-loop
+column-loop-holds t c =
+    let set = c .before .before .before .before .grown-by .ensures in
+    (set .promising .within, set .fit, λ i h. both-parts true (member (c .before .weighted .result) i) _ (rw (c .intersection2 .ensures) at h) .1, refl, refl, set .memory)
+
+column-pays-requires : (t : ℕ) → column-lts.Need-pays-requires (column-calls t) (column-at t) column.Post column-Inv-loop column-μ-loop
+column-pays-requires t c κs = search needs
+
+column-same-length : (t : ℕ) → column-lts.Need-same-length (column-calls t) (column-at t) column.Post column-Inv-loop column-μ-loop
+column-same-length t c = c .before .before .loop .inv .3 ∙ c .before .before .before .before .before .before .before .grown-by .kept .1 .1 .1 .1 .1 .1 .1 .0 ∙ c .before .before .before .before .before .before .before .before .before .before .before .grown .kept .1 .1 .1 .1 .1 .1 .0
+
+column-returns : (t : ℕ) → column-lts.Need-returns (column-calls t) (column-at t) column.Post column-Inv-loop column-μ-loop
+column-returns t c = let inv = c .before .before .loop .inv in record { promising = promising-of (c .before .before .before .before .before .before .before .before .before .before .before .before .before .before .before .before .before .before .pre .1 .promising) (inv .0); fit = inv .1; same = inv .4 ∙ c .before .before .before .before .before .before .before .grown-by .ensures .same ∙ c .before .before .before .before .before .before .before .before .before .before .before .grown .ensures .same; memory = inv .5 }
+
+column-highest-requires : (t : ℕ) → column-lts.Need-highest-requires (column-calls t) (column-at t) column.Post column-Inv-loop column-μ-loop
+column-highest-requires t c κs = search needs
+
+column-enum-known-i : (t : ℕ) → column-lts.Need-enum-known-i (column-calls t) (column-at t) column.Post column-Inv-loop column-μ-loop
+column-enum-known-i t c = search needs
+
+column-enum-told : (t : ℕ) → column-lts.Need-enum-told (column-calls t) (column-at t) column.Post column-Inv-loop column-μ-loop
+column-enum-told t c = search needs
+
+column-same-length-2 : (t : ℕ) → column-lts.Need-same-length-2 (column-calls t) (column-at t) column.Post column-Inv-loop column-μ-loop
+column-same-length-2 t c = c .before .before .before .before .before .loop .inv .3 ∙ c .before .before .before .before .before .before .before .before .before .before .grown-by .kept .1 .1 .1 .1 .1 .1 .1 .0 ∙ c .before .before .before .before .before .before .before .before .before .before .before .before .before .before .grown .kept .1 .1 .1 .1 .1 .1 .0
+
+column-returns-2 : (t : ℕ) → column-lts.Need-returns-2 (column-calls t) (column-at t) column.Post column-Inv-loop column-μ-loop
+column-returns-2 t c = let inv = c .before .before .before .before .before .loop .inv in record { promising = promising-of (c .before .before .before .before .before .before .before .before .before .before .before .before .before .before .before .before .before .before .before .before .before .pre .1 .promising) (inv .0); fit = inv .1; same = inv .4 ∙ c .before .before .before .before .before .before .before .before .before .before .grown-by .ensures .same ∙ c .before .before .before .before .before .before .before .before .before .before .before .before .before .before .grown .ensures .same; memory = inv .5 }
+
+column-without-requires : (t : ℕ) → column-lts.Need-without-requires (column-calls t) (column-at t) column.Post column-Inv-loop column-μ-loop
+column-without-requires t c κs = search needs
+
+column-minus-requires : (t : ℕ) → column-lts.Need-minus-requires (column-calls t) (column-at t) column.Post column-Inv-loop column-μ-loop
+column-minus-requires t c κs = search needs
+
+-- the entry to begin with
+start-in : (t : ℕ) (c : column-lts.After-i (column-calls t) (column-at t) column.Post column-Inv-loop column-μ-loop) → member (c .before .before .before .before .before .loop .rest) (c .i .given .0 .0) ≡ true
+start-in t c = (rw (c .i .given .1) at (c .before .before .highest .ensures)) .here
+
+start-small : (t : ℕ) (c : column-lts.After-i (column-calls t) (column-at t) column.Post column-Inv-loop column-μ-loop) → c .i .given .0 .0 < 64
+start-small t c =
+    let asked = c .before .before .before .before .before .before .before .before .before .before .before .before .before .before .before .before .before .before .before .before .before .pre .1 in
+    omega (arith, chosen-below asked (c .before .before .before .before .before .loop .inv .2) _ (start-in t c), asked .promising .few)
+
+column-grown-requires-2 : (t : ℕ) → column-lts.Need-grown-requires-2 (column-calls t) (column-at t) column.Post column-Inv-loop column-μ-loop
+column-grown-requires-2 t c κs =
+    let start = (c .before .before .before .before .before .before .before .before .before .before .before .before .before .before .before .before .before .before .before .before .before .before .before .before .before) in
+    let asked = start .pre .1 in
+    let inv = c .before .before .before .before .before .before .before .before .before .loop .inv in
+    let low = c .before .before .before .before .before .before .before .before .before .before .before .before .before .before .before .before .before .before .grown .ensures in (
+      omega (arith, start .pre .0),
+      record {
+        promising = promising-of (asked .promising) (either-made (member (c .before .before .before .before .before .before .before .before .before .before .before .before .before .before .before .before .before .before .grown .result)) (member (c .before .minus .result)) (low .promising .within) (λ i h. rw (asked .all-asking) at (inv .2 i (both-parts true (member (c .before .before .before .before .before .before .before .before .before .loop .rest) i) _ (rw (c .before .minus .ensures) at h) .0))));
+        fit = low .fit;
+        deep = asked .deep;
+        room = room-kept (inv .3 ∙ c .before .before .before .before .before .before .before .before .before .before .before .before .before .before .grown-by .kept .1 .1 .1 .1 .1 .1 .1 .0 ∙ c .before .before .before .before .before .before .before .before .before .before .before .before .before .before .before .before .before .before .grown .kept .1 .1 .1 .1 .1 .1 .0) (asked .room);
+        memory = inv .5;
+      },
+    )
+
+column-grown-by-requires-2 : (t : ℕ) → column-lts.Need-grown-by-requires-2 (column-calls t) (column-at t) column.Post column-Inv-loop column-μ-loop
+column-grown-by-requires-2 t c κs =
+    let start = (c .before .before .before .before .before .before .before .before .before .before .before .before .before .before .before .before .before .before .before .before .before .before .before .before .before .before .before .before .before) in
+    let asked = start .pre .1 in
+    let one = c .before .before .before .grown2 .ensures in (
+      omega (arith, start .pre .0),
+      record {
+        promising = promising-of (asked .promising) (either-made (member (c .before .before .before .grown2 .result)) (member (start .args .all)) (one .promising .within) (λ i h. rw (asked .all-asking) at h));
+        fit = one .fit;
+        deep = asked .deep;
+        room = room-kept (c .before .before .before .grown2 .kept .1 .1 .1 .1 .1 .1 .0 ∙ c .before .before .before .before .before .before .before .before .before .before .before .before .before .loop .inv .3 ∙ c .before .before .before .before .before .before .before .before .before .before .before .before .before .before .before .before .before .before .grown-by .kept .1 .1 .1 .1 .1 .1 .1 .0 ∙ c .before .before .before .before .before .before .before .before .before .before .before .before .before .before .before .before .before .before .before .before .before .before .grown .kept .1 .1 .1 .1 .1 .1 .0) (asked .room);
+        memory = one .memory;
+      },
+    )
+
+column-loop-less : (t : ℕ) → column-lts.Need-loop-less (column-calls t) (column-at t) column.Post column-Inv-loop column-μ-loop
+column-loop-less t c = rw (c .before .before .before .before .before .before .before .before .before .without .ensures) (count-removed (member (c .before .before .before .before .before .before .before .before .before .before .before .before .before .before .before .before .loop .rest)) 64 (start-in t (c .before .before .before .before .before .before .before .before .before .before .before)) (start-small t (c .before .before .before .before .before .before .before .before .before .before .before)))
+
+column-loop-again : (t : ℕ) → column-lts.Need-loop-again (column-calls t) (column-at t) column.Post column-Inv-loop column-μ-loop
+column-loop-again t c =
+    let inv = c .before .before .before .before .before .before .before .before .before .before .before .before .before .before .before .before .loop .inv in
+    let set = c .before .before .grown-by2 .ensures in (
+      set .promising .within,
+      set .fit,
+      rw (c .before .before .before .before .before .before .before .before .before .without .ensures) (λ j h. inv .2 j (removed-within (member (c .before .before .before .before .before .before .before .before .before .before .before .before .before .before .before .before .loop .rest)) (c .before .before .before .before .before .before .before .before .before .before .before .i .given .0 .0) j h)),
+      c .before .before .grown-by2 .kept .1 .1 .1 .1 .1 .1 .1 .0 ∙ c .before .before .before .before .before .before .grown2 .kept .1 .1 .1 .1 .1 .1 .0 ∙ inv .3,
+      set .same ∙ c .before .before .before .before .before .before .grown2 .ensures .same ∙ inv .4,
+      set .memory,
+    )
+
+pub +branches+by-asking+by-columns+by-list+by-lists+can-keep+case-holds+column+columns+core-of+greedy+grown+grown-by+keeps+largest+next+opposed+refuted+relation+relations+said-by+solve+split+world-spec :
     {M : Type 1} → statement M
-+branches+by-asking+by-list+case-holds+core-of+greedy+grown+keeps+largest+next+opposed+past-list+refuted+relations+solve+split+world-spec =
++branches+by-asking+by-columns+by-list+by-lists+can-keep+case-holds+column+columns+core-of+greedy+grown+grown-by+keeps+largest+next+opposed+refuted+relation+relations+said-by+solve+split+world-spec =
     close
     μ-branches
     μ-by-asking
+    μ-by-columns
     μ-by-list
+    μ-by-lists
+    μ-can-keep
     μ-case-holds
+    μ-column
+    μ-columns
     μ-core-of
     μ-greedy
     μ-grown
+    μ-grown-by
     μ-keeps
     μ-largest
     μ-next
     μ-opposed
-    μ-past-list
     μ-refuted
+    μ-relation
     μ-relations
+    μ-said-by
     μ-solve
     μ-split
     μ-world
@@ -1848,6 +2429,28 @@ pub +branches+by-asking+by-list+case-holds+core-of+greedy+grown+keeps+largest+ne
     (by-asking-skip-requires t)
     (by-asking-loop-less-2 t)
     (by-asking-loop-again-2 t))
+    (λ t. by-columns-lts.spec (by-columns-calls t)
+    (by-columns-at t)
+    by-columns.Post
+    (by-columns-columns-requires t)
+    (by-columns-enum-known-k t)
+    (by-columns-selected-requires t)
+    (by-columns-same-length t)
+    (by-columns-returns t)
+    (by-columns-enum-known-s t)
+    (by-columns-narrowed-requires t)
+    (by-columns-asking-requires t)
+    (by-columns-by-list-requires t)
+    (by-columns-enum-told t)
+    (by-columns-enum-told-2 t)
+    (by-columns-same-length-2 t)
+    (by-columns-returns-2 t)
+    (by-columns-same-length-3 t)
+    (by-columns-returns-3 t)
+    (by-columns-same-length-4 t)
+    (by-columns-returns-4 t)
+    (by-columns-same-length-5 t)
+    (by-columns-returns-5 t))
     (λ t. by-list-lts.spec (by-list-calls t)
     (by-list-at t)
     by-list.Post
@@ -1864,6 +2467,32 @@ pub +branches+by-asking+by-list+case-holds+core-of+greedy+grown+keeps+largest+ne
     (by-list-returns-2 t)
     (by-list-same-length-3 t)
     (by-list-returns-3 t))
+    (λ t. by-lists-lts.spec (by-lists-calls t)
+    (by-lists-at t)
+    by-lists.Post
+    (by-lists-is-short-requires t)
+    (by-lists-said-by-requires t)
+    (by-lists-enum-told t)
+    (by-lists-enum-told-2 t)
+    (by-lists-enum-told-3 t)
+    (by-lists-said-by-requires-2 t)
+    (by-lists-same-length t)
+    (by-lists-returns t)
+    (by-lists-same-length-2 t)
+    (by-lists-returns-2 t)
+    (by-lists-same-length-3 t)
+    (by-lists-returns-3 t))
+    (λ t. can-keep-lts.spec (can-keep-calls t)
+    (can-keep-at t)
+    can-keep.Post
+    (can-keep-sub-promised t)
+    (can-keep-promised-requires t)
+    (can-keep-enum-known-v t)
+    (can-keep-next-requires t)
+    (can-keep-enum-told t)
+    (can-keep-same-length t)
+    (can-keep-returns t)
+    (can-keep-returns-2 t))
     (λ t. case-holds-lts.spec (case-holds-calls t)
     (case-holds-at t)
     case-holds.Post
@@ -1874,6 +2503,55 @@ pub +branches+by-asking+by-list+case-holds+core-of+greedy+grown+keeps+largest+ne
     (case-holds-same-length t)
     (case-holds-returns t)
     (case-holds-returns-2 t))
+    (λ t. column-lts.spec (column-calls t)
+    (column-at t)
+    column.Post
+    column-Inv-loop
+    column-μ-loop
+    (column-closed-requires t)
+    (column-intersection-requires t)
+    (column-empty-requires t)
+    (column-grown-requires t)
+    (column-grown-by-requires t)
+    (column-weighted-requires t)
+    (column-intersection-requires-2 t)
+    (column-loop-holds t)
+    (column-pays-requires t)
+    (column-same-length t)
+    (column-returns t)
+    (column-highest-requires t)
+    (column-enum-known-i t)
+    (column-enum-told t)
+    (column-same-length-2 t)
+    (column-returns-2 t)
+    (column-without-requires t)
+    (column-minus-requires t)
+    (column-grown-requires-2 t)
+    (column-grown-by-requires-2 t)
+    (column-loop-less t)
+    (column-loop-again t))
+    (λ t. columns-lts.spec (columns-calls t)
+    (columns-at t)
+    columns.Post
+    columns-Inv-loop
+    columns-μ-loop
+    (columns-loop-holds t)
+    (columns-weighs-requires t)
+    (columns-same-length t)
+    (columns-returns t)
+    (columns-prices-behind-requires t)
+    (columns-column-requires t)
+    (columns-pays-requires t)
+    (columns-weighted-requires t)
+    (columns-same-length-2 t)
+    (columns-returns-2 t)
+    (columns-also-requires t)
+    (columns-enum-known-more t)
+    (columns-loop-less t)
+    (columns-loop-again t)
+    (columns-enum-told t)
+    (columns-same-length-3 t)
+    (columns-returns-3 t))
     (λ t. core-of-lts.spec (core-of-calls t)
     (core-of-at t)
     core-of.Post
@@ -1922,31 +2600,46 @@ pub +branches+by-asking+by-list+case-holds+core-of+greedy+grown+keeps+largest+ne
     (λ t. grown-lts.spec (grown-calls t)
     (grown-at t)
     grown.Post
-    grown-Inv-loop
-    grown-μ-loop
-    (grown-loop-holds t)
-    (grown-highest-requires t)
-    (grown-enum-known-i t)
-    (grown-enum-told t)
+    (grown-flat-requires t)
+    (grown-grown-by-requires t)
     (grown-same-length t)
-    (grown-returns t)
-    (grown-without-requires t)
-    (grown-with-requires t)
-    (grown-keeps-requires t)
-    (grown-loop-less t)
-    (grown-loop-again t)
-    (grown-loop-less-2 t)
-    (grown-loop-again-2 t))
+    (grown-returns t))
+    (λ t. grown-by-lts.spec (grown-by-calls t)
+    (grown-by-at t)
+    grown-by.Post
+    grown-by-Inv-loop
+    grown-by-μ-loop
+    (grown-by-loop-holds t)
+    (grown-by-heaviest-requires t)
+    (grown-by-highest-requires t)
+    (grown-by-enum-known-i t)
+    (grown-by-enum-told t)
+    (grown-by-same-length t)
+    (grown-by-returns t)
+    (grown-by-without-requires t)
+    (grown-by-with-requires t)
+    (grown-by-keeps-requires t)
+    (grown-by-loop-less t)
+    (grown-by-loop-again t)
+    (grown-by-loop-less-2 t)
+    (grown-by-loop-again-2 t))
     (λ t. keeps-lts.spec (keeps-calls t)
     (keeps-at t)
     keeps.Post
-    (keeps-sub-promised t)
-    (keeps-promised-requires t)
-    (keeps-enum-known-v t)
-    (keeps-next-requires t)
-    (keeps-enum-told t)
+    (keeps-sub-parts t)
+    (keeps-parts-requires t)
+    (keeps-sub-parts-2 t)
+    (keeps-parts-requires-2 t)
+    (keeps-add-from t)
+    (keeps-mul-from t)
+    (keeps-recall-requires t)
+    (keeps-enum-known-known t)
     (keeps-same-length t)
     (keeps-returns t)
+    (keeps-enum-told t)
+    (keeps-can-keep-requires t)
+    (keeps-remember-requires t)
+    (keeps-same-length-2 t)
     (keeps-returns-2 t))
     (λ t. largest-lts.spec (largest-calls t)
     (largest-at t)
@@ -1990,14 +2683,12 @@ pub +branches+by-asking+by-list+case-holds+core-of+greedy+grown+keeps+largest+ne
     opposed.Post
     opposed-Inv-loop
     opposed-μ-loop
-    (opposed-len-requires t)
-    (opposed-returns t)
     (opposed-loop-holds t)
     (opposed-highest-requires t)
     (opposed-enum-known-i t)
     (opposed-enum-told t)
     (opposed-same-length t)
-    (opposed-returns-2 t)
+    (opposed-returns t)
     (opposed-highest-requires-2 t)
     (opposed-enum-known-j t)
     (opposed-without-requires t)
@@ -2005,7 +2696,7 @@ pub +branches+by-asking+by-list+case-holds+core-of+greedy+grown+keeps+largest+ne
     (opposed-pair-requires t)
     (opposed-keeps-requires t)
     (opposed-same-length-2 t)
-    (opposed-returns-3 t)
+    (opposed-returns-2 t)
     (opposed-loop-less t)
     (opposed-loop-again t)
     (opposed-loop-less-2 t)
@@ -2014,19 +2705,6 @@ pub +branches+by-asking+by-list+case-holds+core-of+greedy+grown+keeps+largest+ne
     (opposed-without-requires-2 t)
     (opposed-loop-less-3 t)
     (opposed-loop-again-3 t))
-    (λ t. past-list-lts.spec (past-list-calls t)
-    (past-list-at t)
-    past-list.Post
-    (past-list-weighed-requires t)
-    (past-list-narrowed-requires t)
-    (past-list-asking-requires t)
-    (past-list-by-list-requires t)
-    (past-list-enum-told t)
-    (past-list-same-length t)
-    (past-list-returns t)
-    (past-list-by-asking-requires t)
-    (past-list-same-length-2 t)
-    (past-list-returns-2 t))
     (λ t. refuted-lts.spec (refuted-calls t)
     (refuted-at t)
     refuted.Post
@@ -2035,6 +2713,21 @@ pub +branches+by-asking+by-list+case-holds+core-of+greedy+grown+keeps+largest+ne
     (refuted-relations-requires t)
     (refuted-same-length t)
     (refuted-returns-2 t))
+    (λ t. relation-lts.spec (relation-calls t)
+    (relation-at t)
+    relation.Post
+    (relation-narrowed-requires t)
+    (relation-add-from t)
+    (relation-mul-from t)
+    (relation-recall-requires t)
+    (relation-enum-known-known t)
+    (relation-same-length t)
+    (relation-returns t)
+    (relation-enum-told t)
+    (relation-solve-requires t)
+    (relation-remember-requires t)
+    (relation-same-length-2 t)
+    (relation-returns-2 t))
     (λ t. relations-lts.spec (relations-calls t)
     (relations-at t)
     relations.Post
@@ -2049,12 +2742,21 @@ pub +branches+by-asking+by-list+case-holds+core-of+greedy+grown+keeps+largest+ne
     (relations-returns t)
     (relations-question-of-requires t)
     (relations-asking-requires t)
-    (relations-solve-requires t)
+    (relations-relation-requires t)
     (relations-same-length-2 t)
     (relations-returns-2 t)
     (relations-minus-requires t)
     (relations-loop-less t)
     (relations-loop-again t))
+    (λ t. said-by-lts.spec (said-by-calls t)
+    (said-by-at t)
+    said-by.Post
+    (said-by-by-list-requires t)
+    (said-by-by-columns-requires t)
+    (said-by-same-length t)
+    (said-by-returns t)
+    (said-by-same-length-2 t)
+    (said-by-returns-2 t))
     (λ t. solve-lts.spec (solve-calls t)
     (solve-at t)
     solve.Post
@@ -2067,11 +2769,11 @@ pub +branches+by-asking+by-list+case-holds+core-of+greedy+grown+keeps+largest+ne
     (solve-greedy-requires t)
     (solve-same-length-3 t)
     (solve-returns-3 t)
-    (solve-by-list-requires t)
+    (solve-by-lists-requires t)
     (solve-enum-told t)
     (solve-enum-told-2 t)
     (solve-enum-told-3 t)
-    (solve-past-list-requires t)
+    (solve-by-asking-requires t)
     (solve-same-length-4 t)
     (solve-returns-4 t)
     (solve-same-length-5 t)
