@@ -1,7 +1,7 @@
 // Questions that have been answered, kept in lent words: a slot is the set wanted true, the set wanted false, and the
-// answer. A slot is found by its sets and overwritten freely.
+// answer. A slot is found by its sets and overwritten freely; questions that are dear to answer have slots of their own.
 ghost use mathlib.Core.Path.{_≡_};
-ghost use Prim.Native.Nat.{ℕ, min};
+ghost use Prim.Native.Nat.{ℕ, min, _<_};
 ghost use Rattle.sets.specs.Set.{member};
 ghost use Rattle.table.specs.declared.entry.Entry.{Entry};
 ghost use Rattle.memory.specs.Memory.{mark, Memory, RecallIs, StandsFor, PlaceIs, Stored, Forgotten};
@@ -35,8 +35,25 @@ fn fewer(a: usize, b: usize) -> usize
     if a < b { a } else { b }
 }
 
+// The slot of a question with this number. A third of the slots is for those that are dear, so that many cheap ones do not
+// push them out.
+fn slot_of(number: usize, slots: usize, dear: bool) -> usize
+    requires { ⌜ 0 < slots ⌝ }
+    ensures { λ r. ⌜ r < slots ⌝ }
+{
+    let share = slots / 3;
+    if share == 0 {
+        return number % slots;
+    }
+    if dear {
+        number % share
+    } else {
+        share + number % (slots - share)
+    }
+}
+
 // The place of a question's slot among so many words, the slots beginning at a place.
-fn find(words: usize, from: usize, yes: Set, no: Set) -> Place
+fn find(words: usize, from: usize, yes: Set, no: Set, dear: bool) -> Place
     ensures { λ r. ⌜ PlaceIs from words r ⌝ }
 {
     if words <= from {
@@ -46,7 +63,8 @@ fn find(words: usize, from: usize, yes: Set, no: Set) -> Place
     if slots == 0 {
         return Place::Nowhere;
     }
-    let slot = spread(yes.code(), no.code()) as usize % slots;
+    let number = spread(yes.code(), no.code()) as usize;
+    let slot = slot_of(number, slots, dear);
     Place::At(from + 3 * slot)
 }
 
@@ -69,10 +87,10 @@ fn mark_of(answer: bool) -> u64
 }
 
 // Whether some world makes one set of entries true and another false, if that is remembered in the slots from a place on.
-pub fn recall(words: &[u64], from: usize, yes: Set, no: Set) -> Remembered
+pub fn recall(words: &[u64], from: usize, yes: Set, no: Set, dear: bool) -> Remembered
     ensures { λ r. ⌜ ((entry : ℕ → Entry) → Memory entry (now (words .entry)) from → RecallIs entry (member yes) (member no) r) ⌝ }
 {
-    let Place::At(at) = find(words.len(), from, yes, no) else {
+    let Place::At(at) = find(words.len(), from, yes, no, dear) else {
         return Remembered::Nothing;
     };
     if word_at(words, at) != yes.code() {
@@ -85,10 +103,10 @@ pub fn recall(words: &[u64], from: usize, yes: Set, no: Set) -> Remembered
 }
 
 // Stores an answer, over another one if need be.
-pub fn remember(words: &mut [u64], from: usize, yes: Set, no: Set, answer: bool)
+pub fn remember(words: &mut [u64], from: usize, yes: Set, no: Set, dear: bool, answer: bool)
     ensures { λ r. ⌜ Stored from (member yes) (member no) answer (now (words .entry)) (now (words .exit)) ⌝ }
 {
-    let Place::At(at) = find(words.len(), from, yes, no) else {
+    let Place::At(at) = find(words.len(), from, yes, no, dear) else {
         return;
     };
     words[at] = yes.code();

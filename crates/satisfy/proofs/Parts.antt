@@ -15,6 +15,7 @@ use Rattle.tableau.specs.Counting.{bound}
 use Rattle.tableau.specs.Search.{Problem, Fit}
 use Rattle.tableau.proofs.Tests.{both-parts, both-made, one-of}
 use Rattle.tableau.proofs.Promises.{sat-feasible}
+use Rattle.tableau.proofs.Alone.{answers}
 use Rattle.satisfy.specs.Promise.{Promising, HasPart, PartsOf}
 use Rattle.satisfy.proofs.Promises.{named, part-below}
 
@@ -65,11 +66,6 @@ module _ {P : Problem} {promises : ℕ → Bool} {c : Bool} where
           (part .only j)
           (one-of (eqb j (P .entry i .first)) (found j) h))
       collected-next false not-so = collected-more (λ j h. h) (λ a. absurd (false≢true (sym not-so ∙ a))) (part .only)
-
--- questions that come to the same have the same answers
-answers : {A B : Type 0} → (A → B) → (B → A) → (a : Bool) → Answers a A → Answers a B
-answers there back true h = there h
-answers there back false h = λ b. h (back b)
 
 module _ (P : Problem) (promises : Set) {depth : ℕ} (all : Promising P (member promises) depth) {yes no : ℕ → Bool}
     (needs : PartsOf P (member promises) true yes) (limits : PartsOf P (member promises) false no) where

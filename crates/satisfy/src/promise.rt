@@ -1,6 +1,7 @@
 // What the promises of a successor come to: as wants at its world, and as the parts that are true or false there.
 ghost use lib.ListN.{length};
 ghost use mathlib.Core.Path.{_≡_};
+ghost use mathlib.Core.Bool.{true, false};
 ghost use Prim.Native.Nat.{_<_};
 ghost use Rattle.sets.specs.Set.{member, nothing, added};
 ghost use Rattle.wide.specs.Wide.{wideAt};
@@ -17,6 +18,12 @@ use table::entry::Entry;
 use wants::Outcome;
 use wants::Wants;
 use wide::wide_at;
+
+// The parts of promised needs, and of promised limits.
+pub struct Parts {
+    pub yes: Set,
+    pub no: Set,
+}
 
 // The promises of two entries.
 pub fn pair(i: usize, j: usize) -> Set
@@ -89,18 +96,23 @@ fn with_part(found: Set, e: Entry, q: Question, i: usize, need: bool) -> Set
     }
 }
 
-// The parts that a successor has to make true (of promised needs), or else false (of promised limits), to keep the promises of a set.
-pub fn parts(entries: &[u64], q: Question, promises: Set, need: bool, depth: usize) -> Set
+// The parts that a successor has to make true, those of promised needs, and false, those of promised limits, to keep the
+// promises of a set.
+pub fn parts_of(entries: &[u64], q: Question, promises: Set, depth: usize) -> Parts
     requires { ⌜ Promising (problemOf (now entries) q) (member promises) depth ⌝ }
-    ensures { λ r. ⌜ PartsOf (problemOf (now (entries .entry)) q) (member promises) need (member r) ⌝ }
+    ensures { λ r. ⌜ PartsOf (problemOf (now (entries .entry)) q) (member promises) true (member (r .yes))
+        × PartsOf (problemOf (now (entries .entry)) q) (member promises) false (member (r .no)) ⌝ }
 {
-    let mut found = Set::empty();
+    let mut yes = Set::empty();
+    let mut no = Set::empty();
     let mut rest = promises;
     loop {
         let Highest::At(i) = rest.highest() else {
-            return found;
+            return Parts { yes, no };
         };
-        found = with_part(found, wide_at(entries, i), q, i, need);
+        let e = wide_at(entries, i);
+        yes = with_part(yes, e, q, i, true);
+        no = with_part(no, e, q, i, false);
         rest = rest.without(i);
     }
 }

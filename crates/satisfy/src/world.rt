@@ -28,7 +28,7 @@ use crate::listing::prices_behind;
 use crate::listing::selected;
 use crate::listing::weighs;
 use crate::promise::pair;
-use crate::promise::parts;
+use crate::promise::parts_of;
 use crate::promise::promised;
 use crate::relation::counted;
 use crate::relation::question_of;
@@ -181,11 +181,11 @@ fn relation(
     let yes = alone.yes;
     let no = alone.no;
     let from = (depth + 1) * level;
-    if let Remembered::Answer(known) = recall(work, from, yes, no) {
+    if let Remembered::Answer(known) = recall(work, from, yes, no, true) {
         return known;
     }
     let found = solve(entries, q, all, depth, level, work);
-    remember(work, from, yes, no, found);
+    remember(work, from, yes, no, true, found);
     found
 }
 
@@ -636,14 +636,15 @@ fn keeps(
     requires { ⌜ PromisesAsked (problemOf (now entries) q) promises depth level (now work) ⌝ }
     ensures { λ r. ⌜ Kept (problemOf (now (entries .entry)) q) promises depth level (now (work .entry)) (now (work .exit)) r ⌝ }
 {
-    let yes = parts(entries, q, promises, true, depth - 1);
-    let no = parts(entries, q, promises, false, depth - 1);
+    let wanted = parts_of(entries, q, promises, depth - 1);
+    let yes = wanted.yes;
+    let no = wanted.no;
     let from = (depth + 1) * level;
-    if let Remembered::Answer(known) = recall(work, from, yes, no) {
+    if let Remembered::Answer(known) = recall(work, from, yes, no, false) {
         return known;
     }
     let found = can_keep(entries, q, promises, depth, level, work);
-    remember(work, from, yes, no, found);
+    remember(work, from, yes, no, false, found);
     found
 }
 
@@ -673,7 +674,7 @@ fn next(entries: &[u64], w: Wants, depth: usize, level: usize, work: &mut [u64])
     let yes = w.yes;
     let no = w.no;
     let from = (depth + 1) * level;
-    if let Remembered::Answer(known) = recall(work, from, yes, no) {
+    if let Remembered::Answer(known) = recall(work, from, yes, no, false) {
         return known;
     }
     let found = world(
@@ -685,6 +686,6 @@ fn next(entries: &[u64], w: Wants, depth: usize, level: usize, work: &mut [u64])
         level,
         &mut work[level..],
     );
-    remember(work, from, yes, no, found);
+    remember(work, from, yes, no, false, found);
     found
 }

@@ -40,7 +40,7 @@ module _ (yes no : ℕ → Bool) (e : Entry) (i : ℕ) where
   asked h = ⊎-elim (bound-asked true) (bound-asked false) (one-of (need yes no e i) _ h)
 
 -- questions that come to the same have the same answers
-answers : {P Q : Type 0} → (P → Q) → (Q → P) → (a : Bool) → Answers a P → Answers a Q
+pub answers : {P Q : Type 0} → (P → Q) → (Q → P) → (a : Bool) → Answers a P → Answers a Q
 answers there back true p = there p
 answers there back false p = λ q. p (back q)
 

@@ -1,7 +1,7 @@
--- `find` meets its contract: a remainder is below what it is divided by.
+-- `find` meets its contract: there is room for every slot.
 use mathlib.Core.Path.{refl}
-use Prim.Native.Nat.{_-_, _/_, _%_, _<_, _≤_}
-use native.Mathlib.Nat.{mod-lt, min-le-left, min-le-right}
+use Prim.Native.Nat.{_-_, _/_, _≤_}
+use native.Mathlib.Nat.{min-le-left, min-le-right}
 use native.Mathlib.Omega.{arith}
 use borrow.Author.Needs.{needs}
 use Rattle.memory.proofs.find.Statement.{statement}
@@ -14,12 +14,8 @@ room c = rw (c .fewer .ensures) (min-le-left _ _)
 few : (c : tie.After-fewer) → c .fewer .result ≤ 4096
 few c = rw (c .fewer .ensures) (min-le-right _ _)
 
--- the slot is one of them
-slot-below : (c : tie.After-spread) → c .spread .result % c .before .before .before .before .fewer .result < c .before .before .before .before .fewer .result
-slot-below c = mod-lt (c .spread .result) (omega arith)
-
 returns-3 : tie.Need-returns-3
-returns-3 c = (c .spread .result % c .before .before .before .before .fewer .result, omega (arith, slot-below c, few (c .before .before .before .before)), refl, omega (arith, slot-below c, room (c .before .before .before .before)))
+returns-3 c = (c .slot-of .result, omega (arith, c .slot-of .ensures, few (c .before .before .before .before .before)), refl, omega (arith, c .slot-of .ensures, room (c .before .before .before .before .before)))
 
 pub find-spec : {M : Type 1} → statement M
 find-spec =
@@ -32,7 +28,7 @@ find-spec =
     (λ c κs. search needs)
     (λ c κs. search needs)
     (λ c κs. search needs)
-    (λ c. search needs)
-    (λ c. omega (arith, slot-below c, few (c .before .before .before .before)))
-    (λ c. omega (arith, slot-below c, room (c .before .before .before .before)))
+    (λ c κs. omega arith)
+    (λ c. omega (arith, c .slot-of .ensures, few (c .before .before .before .before .before)))
+    (λ c. omega (arith, c .slot-of .ensures, room (c .before .before .before .before .before)))
     returns-3)

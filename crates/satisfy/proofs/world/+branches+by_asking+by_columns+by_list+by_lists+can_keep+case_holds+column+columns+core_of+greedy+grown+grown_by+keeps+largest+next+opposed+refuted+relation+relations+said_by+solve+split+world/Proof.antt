@@ -150,7 +150,7 @@ use Rattle.satisfy.proofs.listing.weighs.Reads as weighs-reads
 use Rattle.satisfy.proofs.listing.prices_behind.Reads as prices-behind-reads
 use Rattle.satisfy.proofs.listing.is_short.Reads as is-short-reads
 use Rattle.satisfy.proofs.promise.pair.Reads as pair-reads
-use Rattle.satisfy.proofs.promise.parts.Reads as parts-reads
+use Rattle.satisfy.proofs.promise.parts_of.Reads as parts-of-reads
 use Rattle.satisfy.proofs.promise.promised.Reads as promised-reads
 use Rattle.satisfy.proofs.relation.counted.Reads as counted-reads
 use Rattle.satisfy.proofs.relation.question_of.Reads as question-of-reads
@@ -422,7 +422,7 @@ grown-calls t =
 
 abbrev keeps-calls : ℕ → keeps-lts.Claims
 keeps-calls t =
-    (parts-reads.Asked, parts-reads.Learnt, recall-reads.Asked, recall-reads.Learnt, can-keep-below t, can-keep.Post, remember-reads.Asked, remember-reads.Learnt)
+    (parts-of-reads.Asked, parts-of-reads.Learnt, recall-reads.Asked, recall-reads.Learnt, can-keep-below t, can-keep.Post, remember-reads.Asked, remember-reads.Learnt)
 
 abbrev can-keep-calls : ℕ → can-keep-lts.Claims
 can-keep-calls t =
@@ -562,23 +562,17 @@ can-keep-returns-2 t c =
       memory = start .pre .1 .memory;
     }
 
-keeps-sub-parts : (t : ℕ) → keeps-lts.Need-sub-parts (keeps-calls t) (keeps-at t) keeps.Post
-keeps-sub-parts t c = omega (arith, c .before .before .pre .1 .deep)
+keeps-sub-parts-of : (t : ℕ) → keeps-lts.Need-sub-parts-of (keeps-calls t) (keeps-at t) keeps.Post
+keeps-sub-parts-of t c = omega (arith, c .before .before .pre .1 .deep)
 
-keeps-parts-requires : (t : ℕ) → keeps-lts.Need-parts-requires (keeps-calls t) (keeps-at t) keeps.Post
-keeps-parts-requires t c κs = c .before .before .pre .1 .promising
-
-keeps-sub-parts-2 : (t : ℕ) → keeps-lts.Need-sub-parts-2 (keeps-calls t) (keeps-at t) keeps.Post
-keeps-sub-parts-2 t c = omega (arith, c .before .before .before .pre .1 .deep)
-
-keeps-parts-requires-2 : (t : ℕ) → keeps-lts.Need-parts-requires-2 (keeps-calls t) (keeps-at t) keeps.Post
-keeps-parts-requires-2 t c κs = c .before .before .before .pre .1 .promising
+keeps-parts-of-requires : (t : ℕ) → keeps-lts.Need-parts-of-requires (keeps-calls t) (keeps-at t) keeps.Post
+keeps-parts-of-requires t c κs = c .before .before .pre .1 .promising
 
 keeps-add-from : (t : ℕ) → keeps-lts.Need-add-from (keeps-calls t) (keeps-at t) keeps.Post
-keeps-add-from t c = omega (arith, room-depth (c .before .before .before .before .pre .1 .room), c .before .before .before .before .good .1 .1 .1 .1 .1 .0)
+keeps-add-from t c = omega (arith, room-depth (c .before .before .before .before .before .pre .1 .room), c .before .before .before .before .before .good .1 .1 .1 .1 .1 .0)
 
 keeps-mul-from : (t : ℕ) → keeps-lts.Need-mul-from (keeps-calls t) (keeps-at t) keeps.Post
-keeps-mul-from t c = record { fits = from-fits (c .before .before .before .before .pre .1 .room) (omega (arith, c .before .before .before .before .good .1 .1 .1 .1 .1 .0)) }
+keeps-mul-from t c = record { fits = from-fits (c .before .before .before .before .before .pre .1 .room) (omega (arith, c .before .before .before .before .before .good .1 .1 .1 .1 .1 .0)) }
 
 keeps-recall-requires : (t : ℕ) → keeps-lts.Need-recall-requires (keeps-calls t) (keeps-at t) keeps.Post
 keeps-recall-requires t c κs = search needs
@@ -591,11 +585,12 @@ keeps-same-length t c = search needs
 
 keeps-returns : (t : ℕ) → keeps-lts.Need-returns (keeps-calls t) (keeps-at t) keeps.Post
 keeps-returns t c =
-    let start = (c .before .before .before .before .before .before .before .before .before) in
+    let start = (c .before .before .before .before .before .before .before .before .before .before) in
     let a = start .args in
     let asked = start .pre .1 in
+    let parts = c .before .before .before .before .before .before .before .parts-of .ensures in
     record {
-      answers = parts-fit (problemOf (a .entries .now) (a .q)) (a .promises) (asked .promising) (c .before .before .before .before .before .before .parts .ensures) (c .before .before .before .before .before .parts2 .ensures) (c .before .known .given .0 .0) (rw (c .before .known .given .1) at (c .before .before .before .recall .ensures (wideAt (a .entries .now)) (memory-from (wideAt (a .entries .now)) (a .depth) (a .level) (a .work .now) (asked .memory))));
+      answers = parts-fit (problemOf (a .entries .now) (a .q)) (a .promises) (asked .promising) (parts .0) (parts .1) (c .before .known .given .0 .0) (rw (c .before .known .given .1) at (c .before .before .before .recall .ensures (wideAt (a .entries .now)) (memory-from (wideAt (a .entries .now)) (a .depth) (a .level) (a .work .now) (asked .memory))));
       same = refl;
       memory = asked .memory;
     }
@@ -604,7 +599,7 @@ keeps-enum-told : (t : ℕ) → keeps-lts.Need-enum-told (keeps-calls t) (keeps-
 keeps-enum-told t c = search needs
 
 keeps-can-keep-requires : (t : ℕ) → keeps-lts.Need-can-keep-requires (keeps-calls t) (keeps-at t) keeps.Post
-keeps-can-keep-requires t c κs = (omega (arith, c .before .before .before .before .before .before .before .before .before .pre .0), c .before .before .before .before .before .before .before .before .before .pre .1)
+keeps-can-keep-requires t c κs = (omega (arith, c .before .before .before .before .before .before .before .before .before .before .pre .0), c .before .before .before .before .before .before .before .before .before .before .pre .1)
 
 keeps-remember-requires : (t : ℕ) → keeps-lts.Need-remember-requires (keeps-calls t) (keeps-at t) keeps.Post
 keeps-remember-requires t c κs = search needs
@@ -614,9 +609,10 @@ keeps-same-length-2 t c = search needs
 
 keeps-returns-2 : (t : ℕ) → keeps-lts.Need-returns-2 (keeps-calls t) (keeps-at t) keeps.Post
 keeps-returns-2 t c =
-    let start = (c .before .before .before .before .before .before .before .before .before .before .before .before .before .before .before .before) in
+    let start = (c .before .before .before .before .before .before .before .before .before .before .before .before .before .before .before .before .before) in
     let a = start .args in
     let entry = wideAt (a .entries .now) in
+    let parts = c .before .before .before .before .before .before .before .before .before .before .before .before .before .before .parts-of .ensures in
     let kept = c .before .before .before .before .before .before .can-keep .ensures in
     let mid = c .before .before .before .before .before .before .can-keep .last .1 .1 .1 .1 .1 .0 in
     let stored = c .before .before .remember .ensures in
@@ -625,7 +621,7 @@ keeps-returns-2 t c =
       answers = kept .answers;
       same = next-same (a .depth) (a .level) after mid (a .work .now) (stored .same) (kept .same);
       memory = memory-to entry (a .depth) (a .level) after
-          (stored .memory entry (memory-from entry (a .depth) (a .level) mid (kept .memory)) (fit-parts (problemOf (a .entries .now) (a .q)) (a .promises) (start .pre .1 .promising) (c .before .before .before .before .before .before .before .before .before .before .before .before .before .parts .ensures) (c .before .before .before .before .before .before .before .before .before .before .before .before .parts2 .ensures) (c .before .before .before .before .before .before .can-keep .result) (kept .answers)));
+          (stored .memory entry (memory-from entry (a .depth) (a .level) mid (kept .memory)) (fit-parts (problemOf (a .entries .now) (a .q)) (a .promises) (start .pre .1 .promising) (parts .0) (parts .1) (c .before .before .before .before .before .before .can-keep .result) (kept .answers)));
     }
 
 next-add-from : (t : ℕ) → next-lts.Need-add-from (next-calls t) (next-at t) next.Post
@@ -2626,10 +2622,8 @@ pub +branches+by-asking+by-columns+by-list+by-lists+can-keep+case-holds+column+c
     (λ t. keeps-lts.spec (keeps-calls t)
     (keeps-at t)
     keeps.Post
-    (keeps-sub-parts t)
-    (keeps-parts-requires t)
-    (keeps-sub-parts-2 t)
-    (keeps-parts-requires-2 t)
+    (keeps-sub-parts-of t)
+    (keeps-parts-of-requires t)
     (keeps-add-from t)
     (keeps-mul-from t)
     (keeps-recall-requires t)
