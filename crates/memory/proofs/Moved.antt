@@ -60,7 +60,7 @@ module _ (entry : ℕ → Entry) where
         ∙ ap (λ (l : List ℕ). getD l (depth * level + i) 0) (nothing-left worked))
 
   -- words of 0 remember nothing
-  pub memory-none : (words : List ℕ) (from : ℕ) → ((i : ℕ) → from ≤ i → i < from + 12288 → getD words i 0 ≡ 0) → Memory entry words from
+  pub memory-none : (words : List ℕ) (from : ℕ) → ((i : ℕ) → from ≤ i → i < from + 49152 → getD words i 0 ≡ 0) → Memory entry words from
   memory-none words from zero = record { slot = λ k few. record { says = λ answer e. absurd (unmarked answer (sym (zero (from + 3 * k + 2) (omega arith) (omega arith)) ∙ e)) } }
     where
       unmarked : (answer : Bool) → 0 ≡ mark answer → ⊥

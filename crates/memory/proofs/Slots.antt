@@ -21,7 +21,7 @@ mark-injective false true e = absurd (omega arith)
 mark-injective false false e = refl
 
 -- a slot with the codes of two sets answers their question
-pub recalled : (entry : ℕ → Entry) (words : List ℕ) (from at k : ℕ) → k < 4096 → (yes no : Set) (last : ℕ) (r : Remembered) → Memory entry words from → at ≡ from + 3 * k
+pub recalled : (entry : ℕ → Entry) (words : List ℕ) (from at k : ℕ) → k < 16384 → (yes no : Set) (last : ℕ) (r : Remembered) → Memory entry words from → at ≡ from + 3 * k
     → getD words at 0 ≡ code yes → getD words (at + 1) 0 ≡ code no → getD words (at + 2) 0 ≡ last → StandsFor last r → RecallIs entry (member yes) (member no) r
 unfolding member
 recalled entry words from at k few ts fs last (Remembered.Answer a) memory is first second third stands =
@@ -57,7 +57,7 @@ module _ (words : List ℕ) (at y n m : ℕ) (room : at + 3 ≤ length words) wh
   third = getD-set-same twice (at + 2) m 0 (simp length-set (omega arith))
 
   module _ (entry : ℕ → Entry) (from k : ℕ) (is : at ≡ from + 3 * k) (memory : Memory entry words from) where
-    same-slot : (j : ℕ) → j < 4096 → ((i : ℕ) → from + 3 * j ≤ i → i < from + 3 * j + 3 → getD written i 0 ≡ getD words i 0)
+    same-slot : (j : ℕ) → j < 16384 → ((i : ℕ) → from + 3 * j ≤ i → i < from + 3 * j + 3 → getD written i 0 ≡ getD words i 0)
         → Recalled entry (getD written (from + 3 * j) 0) (getD written (from + 3 * j + 1) 0) (getD written (from + 3 * j + 2) 0)
     same-slot j few same =
         rw (same (from + 3 * j) (omega arith) (omega arith), same (from + 3 * j + 1) (omega arith) (omega arith), same (from + 3 * j + 2) (omega arith) (omega arith)) (memory .slot j few)

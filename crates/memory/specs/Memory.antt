@@ -21,9 +21,9 @@ module _ (entry : ℕ → Entry) where
   pub record Recalled (yes no last : ℕ) : Type 0 where
     pub says : (answer : Bool) → last ≡ mark answer → Answers answer (Sat entry (bitAt yes) (bitAt no))
 
-  -- so do the slots from a place on, 4,096 at the most
+  -- so do the slots from a place on, 16,384 at the most
   pub record Memory (words : List ℕ) (from : ℕ) : Type 0 where
-    pub slot : (k : ℕ) → k < 4096 → Recalled (getD words (from + 3 * k) 0) (getD words (from + 3 * k + 1) 0) (getD words (from + 3 * k + 2) 0)
+    pub slot : (k : ℕ) → k < 16384 → Recalled (getD words (from + 3 * k) 0) (getD words (from + 3 * k + 1) 0) (getD words (from + 3 * k + 2) 0)
 
   -- what is recalled of a question
   abbrev pub RecallIs : (yes no : ℕ → Bool) → Remembered → Type 0
@@ -37,7 +37,7 @@ StandsFor last Remembered.Nothing = Unit {0}
 
 -- a slot's place among the words, if there is room for any
 abbrev pub PlaceIs : (from words : ℕ) → Place → Type 0
-PlaceIs from words (Place.At at) = (k : ℕ) × (k < 4096) × (at ≡ from + 3 * k) × (at + 3 ≤ words)
+PlaceIs from words (Place.At at) = (k : ℕ) × (k < 16384) × (at ≡ from + 3 * k) × (at + 3 ≤ words)
 PlaceIs from words Place.Nowhere = Unit {0}
 
 -- an answer was stored: the words before the slots are as they were, and the slots still say what is so

@@ -59,7 +59,7 @@ fn find(words: usize, from: usize, yes: Set, no: Set, dear: bool) -> Place
     if words <= from {
         return Place::Nowhere;
     }
-    let slots = fewer((words - from) / 3, 4096);
+    let slots = fewer((words - from) / 3, 16384);
     if slots == 0 {
         return Place::Nowhere;
     }
@@ -119,7 +119,7 @@ pub fn forget(words: &mut [u64], from: usize)
     ensures { λ r. ⌜ Forgotten from (now (words .entry)) (now (words .exit)) ⌝ }
 {
     let mut i = from;
-    let mut left: usize = 12288;
+    let mut left: usize = 49152;
     while i < words.len() {
         if left == 0 {
             return;

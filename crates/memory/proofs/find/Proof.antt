@@ -11,7 +11,7 @@ use Rattle.memory.proofs.find.Tie as tie
 room : (c : tie.After-fewer) → c .fewer .result ≤ (c .before .before .args .words - c .before .before .args .from) / 3
 room c = rw (c .fewer .ensures) (min-le-left _ _)
 
-few : (c : tie.After-fewer) → c .fewer .result ≤ 4096
+few : (c : tie.After-fewer) → c .fewer .result ≤ 16384
 few c = rw (c .fewer .ensures) (min-le-right _ _)
 
 returns-3 : tie.Need-returns-3

@@ -10,7 +10,7 @@ use Rattle.memory.proofs.forget.Statement.{statement}
 use Rattle.memory.proofs.forget.Tie as tie
 
 abbrev Inv-loop : tie.InvT-loop
-Inv-loop words₀ from i₀ left₀ words i left = (i + left ≡ from + 12288) × (from ≤ i) × (length words ≡ length words₀) × Zeros from i words
+Inv-loop words₀ from i₀ left₀ words i left = (i + left ≡ from + 49152) × (from ≤ i) × (length words ≡ length words₀) × Zeros from i words
 
 abbrev μ-loop : tie.MeasureT-loop
 μ-loop words₀ from i₀ left₀ words i left = left
