@@ -145,5 +145,15 @@ module _ {entry : ℕ → Entry} {n d depth : ℕ} {w : Wants} (ready : Ready en
   second-branch one Outcome.Clash (Outcome.Settled u) clash light = absurd light
   second-branch one Outcome.Clash Outcome.Clash clash light = λ s x m t. clash s x (one .meets s x m (t .0)) (t .1)
 
+  -- the second part alone says no more
+  pub second-alone : (o r : Outcome) → OutcomeIs entry n (serving entry d) (entry d .second) w o → Lightened d o r → BranchIs entry n false d w depth r
+  second-alone (Outcome.Settled v) (Outcome.Settled u) taken light =
+      branched false v u (taken .settled) (taken .grows) (rw (taken .has, or-true) refl)
+      (pending-next taken (second-below waiting) (part-depths waiting .1) (λ j h. inl h))
+      (shallow-next taken (second-below waiting) (part-depths waiting .1) (ready .shallow)) (λ s x m t. taken .meets s x m (t .1)) light
+  second-alone (Outcome.Settled v) Outcome.Clash taken light = absurd light
+  second-alone Outcome.Clash (Outcome.Settled u) clash light = absurd light
+  second-alone Outcome.Clash Outcome.Clash clash light = λ s x m t. clash s x m (t .1)
+
   pub second-clash : Refuted entry (not (serving entry d)) (entry d .first) w → BranchIs entry n false d w depth Outcome.Clash
   second-clash clash s x m t = clash s x m (t .0)

@@ -41,7 +41,7 @@ pub fn lighten(outcome: Outcome, d: usize) -> Outcome
 }
 
 // What is wanted in a case of the split of the highest pending entry d: its first part is as it serves, or it is not and
-// the second part is.
+// the second part is. Of the second case the second part alone may be wanted.
 pub fn branch(entries: &[u64], w: Wants, d: usize, case: bool, depth: usize) -> Outcome
     requires { ⌜ Ready (wideAt (now entries)) (length (now entries)) w 64 depth × Greatest (member (w .pending)) d ⌝ }
     ensures { λ r. ⌜ BranchIs (wideAt (now (entries .entry))) (length (now (entries .entry))) case d w depth r ⌝ }
@@ -52,6 +52,11 @@ pub fn branch(entries: &[u64], w: Wants, d: usize, case: bool, depth: usize) -> 
     let second = e.second as usize;
     if case {
         return lighten(want(entries, first, w, serving), d);
+    }
+    // That a counting entry is not so would be a need or a limit more, and a larger problem.
+    let other = wide_at(entries, first);
+    if 6 <= other.kind {
+        return lighten(want(entries, second, w, serving), d);
     }
     match want(entries, first, w, !serving) {
         Outcome::Settled(v) => lighten(want(entries, second, v, serving), d),
