@@ -115,6 +115,19 @@ module _ {P : Problem} {all : Set} {before : List ℕ} {at k slots b most : ℕ}
           ⊎-elim (λ (at : j ≡ _). asked tried (rw at at e)) (λ (there : (low ≤ j) × (j < high)). w .none (j, there .0, there .1, e)) (which j more less);
     }
 
+    -- a range more, refuted for the words as they are, and no number is left
+    pub varied-spanned : {from to least top : ℕ} → (Between P (slotsOf words slots) b from to (codesFrom words at k) → ⊥)
+        → ((j : ℕ) → least ≤ j → j < top → ((from ≤ j) × (j < to)) ⊎ ((low ≤ j) × (j < high))) → Varied P before at k slots b least top false words
+    varied-spanned {from} {to} refuted which = record {
+      answers = λ (j, more, less, e).
+          ⊎-elim (λ (there : (from ≤ j) × (j < to)). spanned (j, there .0, there .1, e)) (λ (there : (low ≤ j) × (j < high)). w .none (j, there .0, there .1, e))
+          (which j more less);
+      unchanged = w .unchanged;
+    }
+      where
+        spanned : Between P (slotsOf before slots) b from to (codesFrom before at k) → ⊥
+        spanned = rw (same-slots (w .unchanged), same-codes (w .unchanged) at k (s .selecting .behind .room) (omega arith)) at refuted
+
     pub varied-none : {least top : ℕ} → low ≤ least → top ≤ high → Varied P before at k slots b least top false words
     varied-none lower upper = record { answers = λ (j, more, less, e). w .none (j, omega arith, omega arith, e); unchanged = w .unchanged }
 

@@ -1,13 +1,17 @@
 // The search for a solution over a list of sets of promises. A linear relaxation of what is left tells that there is none, or
 // finds one, or tells which listed set to take next and how often to take it first; every other number of copies that is of
-// use is tried after that. The search asks nothing. The codes of the list stand in lent words, behind the stack of slots, and
-// the words behind them are there for the relaxation.
+// use is tried after that, until weights refute all that are left at once. The search asks nothing. The codes of the list stand
+// in lent words, behind the stack of slots, and the words behind them are there for the relaxation.
+ghost use mathlib.Core.Path.{_≡_};
+ghost use mathlib.Core.Bool.{true};
 ghost use Prim.Native.Nat.{suc, _<_, _≤_};
 ghost use lib.ListN.{length};
 ghost use Rattle.sets.specs.Set.{code};
 ghost use Rattle.counting.specs.Question.{problemOf};
+ghost use Rattle.counting.specs.Stack.{slotsOf};
 ghost use Rattle.listed.specs.Codes.{codesFrom};
-ghost use Rattle.selection.specs.Selecting.{ListAsked, SolvedIs, Selecting, Varying, Swapped, Selected, Tried, Varied};
+ghost use Rattle.selection.specs.Relaxing.{Relaxing};
+ghost use Rattle.selection.specs.Selecting.{ListAsked, SolvedIs, Selecting, Varying, Between, Swapped, Selected, Tried, Varied};
 
 pub mod pricing;
 pub mod relaxing;
@@ -18,6 +22,7 @@ use counting::stack;
 use packed::word_at;
 use relaxing::Relaxed;
 use sets::Set;
+use weights::range::spans;
 
 // Whether the needs and limits have a solution of listed sets: the k codes from a place on. `all` are the needs and limits.
 pub fn solved(
@@ -83,6 +88,29 @@ fn smaller(a: u64, b: u64) -> u64
     ensures { λ r. ⌜ r ≤ b ⌝ }
 {
     if a < b { a } else { b }
+}
+
+// Whether the weights behind the list, as the last relaxation left them, are seen to refute every number of copies of the set b
+// from low to high.
+fn spanned(
+    entries: &[u64],
+    q: Question,
+    words: &[u64],
+    at: usize,
+    k: usize,
+    slots: usize,
+    b: Set,
+    low: u64,
+    high: u64,
+) -> bool
+    requires { ⌜ Relaxing (problemOf (now entries) q) (now words) at k slots × (low ≤ 4096) × (high ≤ 4096) ⌝ }
+    ensures { λ r. ⌜ (r ≡ true
+        → Between (problemOf (now (entries .entry)) q) (slotsOf (now (words .entry)) slots) (code b) low (suc high) (codesFrom (now (words .entry)) at k) → ⊥) ⌝ }
+{
+    if words.len() - at - k < 64 {
+        return false;
+    }
+    spans(entries, q, words, at, k, slots, at + k, b, low, high)
 }
 
 // The same, of the set at a place and the k sets behind it: set j of these is taken first, and so many copies of it.
@@ -151,6 +179,9 @@ fn rise(
         if tried(entries, q, all, words, at, k, slots, b, m) {
             return true;
         }
+        if spanned(entries, q, words, at, k, slots, b, m, most) {
+            return false;
+        }
         m += 1;
     }
     false
@@ -176,6 +207,9 @@ fn fall(
         m -= 1;
         if tried(entries, q, all, words, at, k, slots, b, m) {
             return true;
+        }
+        if spanned(entries, q, words, at, k, slots, b, 0, m) {
+            return false;
         }
     }
     false

@@ -1,19 +1,23 @@
--- Behind slots with weights that refute, no copies of listed sets complete them to a solution.
--- Why: weighed and rounded, every copy serves no more than it costs, but more is lacking than there is room for.
+-- Behind slots with weights that refute, no copies of listed sets complete them to a solution; nor do they besides m copies of another set.
+-- Why: weighed and rounded, every copy serves no more than it costs, but more is lacking than there is room for. What is lacking and the room
+-- grow evenly with m, so what is refuted at both ends is refuted between them.
 use mathlib.Core.Path.{_≡_, refl, sym, ap, _∙_}
+use mathlib.Core.Logic.{by-cases}
 use mathlib.Core.Logic._⊎_.{inl, inr}
 use mathlib.Core.Bool.{Bool, true, false, not}
 use mathlib.Core.List.{List, [], _∷_}
 use Prim.Native.Nat.{ℕ, zero, suc, _+_, _-_, _*_, _/_, _<_, _≤_}
-use native.Mathlib.Nat.{le-refl, le-of-suc-le-suc, add-le-add, mul-le-mul, mul-add, mul-suc, mul-comm, mul-left-comm, mul-assoc, mul-zero, zero-mul, zero-lt-suc, mul-one, lt-of-mul-lt-mul-left, div-add-mod, mod-lt}
+use native.Mathlib.Nat.{le-refl, le-of-suc-le-suc, add-le-add, mul-le-mul, mul-add, add-mul, mul-suc, mul-comm, mul-left-comm, mul-assoc, mul-zero, zero-mul, zero-lt-suc, mul-one, lt-of-mul-lt-mul-left, div-add-mod, mod-lt}
+use native.Mathlib.Decide.{decLe}
 use native.Mathlib.Omega.{arith}
 use Rattle.semantics.specs.Structure.{bit}
 use Rattle.semantics.proofs.Successors.{gain}
+use Rattle.sets.specs.Word.{bitAt}
 use Rattle.tableau.specs.Counting.{Row, total, All, lo, hi, served, spent}
 use Rattle.tableau.specs.Search.{Slot, taken, rowsOf, Each, Problem, Asks, Extension}
 use Rattle.tableau.specs.Search.Choice.{done, some}
 use Rattle.tableau.specs.Listed.{In}
-use Rattle.tableau.specs.Weights.{sum, up, serves, costs, lack, room, Refuted}
+use Rattle.tableau.specs.Weights.{sum, up, serves, costs, lack, room, Weighing, Refuted, RefutedWith}
 
 -- all successors of the rows, each with the weight of its row
 unfoldable weigh : (Row → ℕ) → List Row → ℕ
@@ -108,49 +112,95 @@ pub record Completes (P : Problem) (slots : List Slot) (list : List ℕ) (more :
   pub met : (i : ℕ) → Asks P true i → lo (P .entry i) ≤ served i (rowsOf more) + served i (rowsOf slots)
   pub kept : (j : ℕ) → Asks P false j → spent j (rowsOf more) + spent j (rowsOf slots) ≤ hi (P .entry j)
 
-module _ (P : Problem) (slots : List Slot) (list : List ℕ) (a b : ℕ → ℕ) (r : ℕ) (weights : Refuted P slots list a b r) where
-  slots-weighed : (more : List Slot) → Each (λ c. In c list) more → All (λ row. up (serves P a (row .promises)) r ≤ costs P b (row .promises) / r) (rowsOf more)
-  slots-weighed [] each = each
-  slots-weighed (s ∷ more) each = (weights .sets (s .code) (each .0), slots-weighed more (each .1))
-
-  pub refuted : (more : List Slot) → Completes P slots list more → ⊥
-  refuted more all =
-      let rows = rowsOf more in
-      let asked = sum (λ i. a i * lack P slots i) (P .n) in
-      let allowed = sum (λ j. b j * room P slots j) (P .n) in
-      let met : asked ≤ sum (λ i. a i * served i rows) (P .n) =
-      sum-mono (P .n) (λ i. weighed (a i) _ _ (λ h. omega (arith, all .met i (weights .needs i h)))) in
-      let kept : sum (λ j. b j * spent j rows) (P .n) ≤ allowed =
-      sum-mono (P .n) (λ j. weighed (b j) _ _ (λ h. omega (arith, all .kept j (weights .limits j h)))) in
-      let served-weight = weigh-sum a (λ i row. row .promises i) (P .n) rows in
-      let spent-weight = weigh-sum b (λ j row. not (row .promises j)) (P .n) rows in
-      let ups = weigh (λ row. up (serves P a (row .promises)) r) rows in
-      let downs = weigh (λ row. costs P b (row .promises) / r) rows in
-      let first : up asked r ≤ ups =
-      up-least (weights .divisor) asked ups (omega (arith, met, served-weight, weigh-up (weights .divisor) (λ row. serves P a (row .promises)) rows)) in
-      let second : ups ≤ downs = weigh-mono _ _ rows (slots-weighed more (all .listed)) in
-      let third : downs ≤ allowed / r =
-      down-greatest (weights .divisor) allowed downs (omega (arith, kept, spent-weight, weigh-down (weights .divisor) (λ row. costs P b (row .promises)) rows)) in
-      omega (arith, first, second, third, weights .gap)
-
--- ---- the copies of an extension as further slots
-
 also-listed : (b : ℕ) (rest : List ℕ) (more : List Slot) → Each (λ c. In c rest) more → Each (λ c. In c (b ∷ rest)) more
 also-listed b rest [] each = each
 also-listed b rest (s ∷ more) each = (inr (each .0), also-listed b rest more (each .1))
 
+-- a slot is one of the further slots, of a set that is listed too
+completes-taken : {P : Problem} {slots : List Slot} {list : List ℕ} (b m : ℕ) {more : List Slot} → Completes P (taken b m ∷ slots) list more
+    → Completes P slots (b ∷ list) (taken b m ∷ more)
+unfolding total
+completes-taken {list = list} b m {more} all = record {
+  listed = (inl refl, also-listed b list more (all .listed));
+  met = λ i asks. omega (arith, all .met i asks);
+  kept = λ j asks. omega (arith, all .kept j asks);
+}
+
+-- what holds of the listed sets holds of the rows of the further slots
+rows-all : (list : List ℕ) (Q : (ℕ → Bool) → Type 0) → ((c : ℕ) → In c list → Q (bitAt c)) → (more : List Slot) → Each (λ c. In c list) more
+    → All (λ row. Q (row .promises)) (rowsOf more)
+rows-all list Q sets [] each = each
+rows-all list Q sets (s ∷ more) each = (sets (s .code) (each .0), rows-all list Q sets more (each .1))
+
+module _ {P : Problem} {slots : List Slot} {list : List ℕ} {a b : ℕ → ℕ} (weighing : Weighing P a b) {more : List Slot} (all : Completes P slots list more) where
+  served-lacking : sum (λ i. a i * lack P slots i) (P .n) ≤ weigh (λ row. serves P a (row .promises)) (rowsOf more)
+  served-lacking =
+      let met : sum (λ i. a i * lack P slots i) (P .n) ≤ sum (λ i. a i * served i (rowsOf more)) (P .n) =
+      sum-mono (P .n) (λ i. weighed (a i) _ _ (λ h. omega (arith, all .met i (weighing .needs i h)))) in
+      omega (arith, met, weigh-sum a (λ i row. row .promises i) (P .n) (rowsOf more))
+
+  spent-room : weigh (λ row. costs P b (row .promises)) (rowsOf more) ≤ sum (λ j. b j * room P slots j) (P .n)
+  spent-room =
+      let kept : sum (λ j. b j * spent j (rowsOf more)) (P .n) ≤ sum (λ j. b j * room P slots j) (P .n) =
+      sum-mono (P .n) (λ j. weighed (b j) _ _ (λ h. omega (arith, all .kept j (weighing .limits j h)))) in
+      omega (arith, kept, weigh-sum b (λ j row. not (row .promises j)) (P .n) (rowsOf more))
+
+module _ (P : Problem) (slots : List Slot) (list : List ℕ) (a b : ℕ → ℕ) where
+  refuted : (r : ℕ) → Refuted P slots list a b r → (more : List Slot) → Completes P slots list more → ⊥
+  refuted r weights more all =
+      let rows = rowsOf more in
+      let asked = sum (λ i. a i * lack P slots i) (P .n) in
+      let allowed = sum (λ j. b j * room P slots j) (P .n) in
+      let ups = weigh (λ row. up (serves P a (row .promises)) r) rows in
+      let downs = weigh (λ row. costs P b (row .promises) / r) rows in
+      let first : up asked r ≤ ups =
+      up-least (weights .divisor) asked ups (omega (arith, served-lacking (weights .weighing) all, weigh-up (weights .divisor) (λ row. serves P a (row .promises)) rows)) in
+      let second : ups ≤ downs = weigh-mono _ _ rows (rows-all list (λ p. up (serves P a p) r ≤ costs P b p / r) (weights .sets) more (all .listed)) in
+      let third : downs ≤ allowed / r =
+      down-greatest (weights .divisor) allowed downs (omega (arith, spent-room (weights .weighing) all, weigh-down (weights .divisor) (λ row. costs P b (row .promises)) rows)) in
+      omega (arith, first, second, third, weights .gap)
+
+  refuted-with : (s m : ℕ) → RefutedWith P slots list a b s m → (more : List Slot) → Completes P (taken s m ∷ slots) list more → ⊥
+  unfolding weigh
+  refuted-with s m weights more all =
+      let rows = rowsOf more in
+      let whole = completes-taken s m all in
+      let bounded : weigh (λ row. serves P a (row .promises)) rows ≤ weigh (λ row. costs P b (row .promises)) rows =
+      weigh-mono _ _ rows (rows-all list (λ p. serves P a p ≤ costs P b p) (weights .sets) more (all .listed)) in
+      omega (arith, served-lacking (weights .weighing) whole, spent-room (weights .weighing) whole, bounded, weights .gap)
+
+-- ---- the copies of an extension as further slots
+
 completed : {P : Problem} {slots : List Slot} {list : List ℕ} → Extension P slots list → (more : List Slot) × Completes P slots list more
 unfolding total
 completed (done met kept) = ([], record { listed = tt; met = λ i asks. omega (arith, met .met i asks); kept = λ j asks. omega (arith, kept .kept j asks) })
-completed (some {slots} {b} {rest} m ok e) =
-    let (more, all) = completed e in (
-      taken b m ∷ more,
-      record {
-        listed = (inl refl, also-listed b rest more (all .listed));
-        met = λ i asks. omega (arith, all .met i asks);
-        kept = λ j asks. omega (arith, all .kept j asks);
-      },
-    )
+completed (some {b = b} m ok e) = let (more, all) = completed e in (taken b m ∷ more, completes-taken b m all)
 
 pub no-extension : {P : Problem} {slots : List Slot} {list : List ℕ} {a b : ℕ → ℕ} {r : ℕ} → Refuted P slots list a b r → Extension P slots list → ⊥
 no-extension {P} {slots} {list} {a} {b} {r} weights e = let (more, all) = completed e in refuted P slots list a b r weights more all
+
+pub no-extension-with : {P : Problem} {slots : List Slot} {list : List ℕ} {a b : ℕ → ℕ} {s m : ℕ} → RefutedWith P slots list a b s m
+    → Extension P (taken s m ∷ slots) list → ⊥
+no-extension-with {P} {slots} {list} {a} {b} {s} {m} weights e = let (more, all) = completed e in refuted-with P slots list a b s m weights more all
+
+-- ---- what is refuted at both ends is refuted between them
+
+-- a multiple of the greater, at a greater number, is greater by no less
+grown : {u v : ℕ} {low m : ℕ} → u ≤ v → low ≤ m → m * u + low * v ≤ low * u + m * v
+grown {u} {v} {low} {m} less from =
+    let d = m - low in
+    let e : m ≡ low + d = omega arith in
+    omega (
+      arith,
+      ap (λ (k : ℕ). k * u) e ∙ add-mul low d u,
+      ap (λ (k : ℕ). k * v) e ∙ add-mul low d v,
+      mul-le-mul (le-refl d) less,
+    )
+
+less-between : (x y u v : ℕ) {low m high : ℕ} → low ≤ m → m ≤ high → x + low * u < y + low * v → x + high * u < y + high * v → x + m * u < y + m * v
+less-between x y u v from to first last =
+    by-cases (decLe u v) (λ (less : u ≤ v). omega (arith, first, grown less from)) (λ (more : ¬ (u ≤ v)). omega (arith, last, grown {u = v} {v = u} (omega arith) to))
+
+pub refuted-between : {P : Problem} {slots : List Slot} {list : List ℕ} {a b : ℕ → ℕ} {s low m high : ℕ} → RefutedWith P slots list a b s low
+    → RefutedWith P slots list a b s high → low ≤ m → m ≤ high → RefutedWith P slots list a b s m
+refuted-between first last from to = record { weighing = first .weighing; sets = first .sets; gap = less-between _ _ _ _ from to (first .gap) (last .gap) }

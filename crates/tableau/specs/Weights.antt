@@ -32,10 +32,20 @@ lack P slots i = lo (P .entry i) - served i (rowsOf slots)
 abbrev pub room : Problem → List Slot → ℕ → ℕ
 room P slots j = hi (P .entry j) - spent j (rowsOf slots)
 
--- By the weights a of the needs and b of the limits, rounded by r, no listed set serves more than it costs, and more is lacking than there is room for.
-pub record Refuted (P : Problem) (slots : List Slot) (list : List ℕ) (a b : ℕ → ℕ) (r : ℕ) : Type 0 where
-  pub divisor : 0 < r
+-- only needs have a weight a, only limits a weight b
+pub record Weighing (P : Problem) (a b : ℕ → ℕ) : Type 0 where
   pub needs : (i : ℕ) → 0 < a i → Asks P true i
   pub limits : (i : ℕ) → 0 < b i → Asks P false i
+
+-- By the weights, rounded by r, no listed set serves more than it costs, and more is lacking than there is room for.
+pub record Refuted (P : Problem) (slots : List Slot) (list : List ℕ) (a b : ℕ → ℕ) (r : ℕ) : Type 0 where
+  pub divisor : 0 < r
+  pub weighing : Weighing P a b
   pub sets : (c : ℕ) → In c list → up (serves P a (bitAt c)) r ≤ costs P b (bitAt c) / r
   pub gap : sum (λ j. b j * room P slots j) (P .n) / r < up (sum (λ i. a i * lack P slots i) (P .n)) r
+
+-- By the weights no listed set serves more than it costs, and besides m copies of the set s more is lacking than there is room for.
+pub record RefutedWith (P : Problem) (slots : List Slot) (list : List ℕ) (a b : ℕ → ℕ) (s m : ℕ) : Type 0 where
+  pub weighing : Weighing P a b
+  pub sets : (c : ℕ) → In c list → serves P a (bitAt c) ≤ costs P b (bitAt c)
+  pub gap : sum (λ j. b j * room P slots j) (P .n) + m * serves P a (bitAt s) < sum (λ i. a i * lack P slots i) (P .n) + m * costs P b (bitAt s)

@@ -3,7 +3,7 @@ use mathlib.Core.Path.{_≡_, refl, _∙_}
 use mathlib.Core.Logic.{by-cases}
 use mathlib.Core.Bool.{Bool, true, false, not, _&&_}
 use mathlib.Core.List.{List}
-use Prim.Native.Nat.{ℕ, _*_, _/_, _<_, _≤_}
+use Prim.Native.Nat.{ℕ, _+_, _*_, _/_, _<_, _≤_}
 use native.Mathlib.Nat.{lt-irrefl, mul-one, mul-zero, zero-mul}
 use native.Mathlib.Decide.{ℕ-discrete}
 use native.Mathlib.Omega.{arith}
@@ -14,7 +14,7 @@ use Rattle.sets.specs.Set.{added, both, butNot}
 use Rattle.sets.specs.Word.{bitAt}
 use Rattle.tableau.specs.Search.{Slot, Problem, Asks}
 use Rattle.tableau.specs.Listed.{In}
-use Rattle.tableau.specs.Weights.{sum, up, lack, room, Refuted}
+use Rattle.tableau.specs.Weights.{sum, up, serves, costs, lack, room, Weighing, Refuted, RefutedWith}
 use Rattle.weights.specs.Weighed.{over, OnlyAsked}
 use Rattle.weights.proofs.Sums.{sum-same, sum-cut}
 
@@ -52,14 +52,32 @@ module _ (P : Problem) (few : P .n ≤ 64) (f : ℕ → ℕ) where
     sum-both : (q : ℕ → Bool) → sum (λ i. gain (p i) (f i) * bit (q i)) (P .n) ≡ over (both p q) f
     sum-both q = whole (λ i. bit (q i)) ∙ sum-same 64 (λ i l. gain-both (p i) (q i) (f i))
 
-  pub refuted-made : (slots : List Slot) (list : List ℕ) (needs limits : ℕ → Bool) (r : ℕ) → OnlyAsked P true needs → OnlyAsked P false limits → 0 < r
-      → ((c : ℕ) → In c list → up (over (both needs (bitAt c)) f) r ≤ over (butNot limits (bitAt c)) f / r)
-      → over limits (λ j. f j * room P slots j) / r < up (over needs (λ i. f i * lack P slots i)) r
-      → Refuted P slots list (λ i. gain (needs i) (f i)) (λ j. gain (limits j) (f j)) r
-  refuted-made slots list needs limits r are-needs are-limits divisor balanced gap = record {
-    divisor = divisor;
-    needs = λ i h. are-needs i (gain-passed (needs i) (f i) h);
-    limits = λ j h. are-limits j (gain-passed (limits j) (f j) h);
-    sets = λ c h. rw (sum-both true needs are-needs (bitAt c), sum-both false limits are-limits (λ j. not (bitAt c j))) (balanced c h);
-    gap = rw (sum-times true needs are-needs (lack P slots), sum-times false limits are-limits (room P slots)) gap;
-  }
+  module _ (slots : List Slot) (list : List ℕ) (needs limits : ℕ → Bool) (are-needs : OnlyAsked P true needs) (are-limits : OnlyAsked P false limits) where
+    weighing-made : Weighing P (λ i. gain (needs i) (f i)) (λ j. gain (limits j) (f j))
+    weighing-made = record { needs = λ i h. are-needs i (gain-passed (needs i) (f i) h); limits = λ j h. are-limits j (gain-passed (limits j) (f j) h) }
+
+    serves-made : (c : ℕ) → serves P (λ i. gain (needs i) (f i)) (bitAt c) ≡ over (both needs (bitAt c)) f
+    serves-made c = sum-both true needs are-needs (bitAt c)
+
+    costs-made : (c : ℕ) → costs P (λ j. gain (limits j) (f j)) (bitAt c) ≡ over (butNot limits (bitAt c)) f
+    costs-made c = sum-both false limits are-limits (λ j. not (bitAt c j))
+
+    pub refuted-made : (r : ℕ) → 0 < r
+        → ((c : ℕ) → In c list → up (over (both needs (bitAt c)) f) r ≤ over (butNot limits (bitAt c)) f / r)
+        → over limits (λ j. f j * room P slots j) / r < up (over needs (λ i. f i * lack P slots i)) r
+        → Refuted P slots list (λ i. gain (needs i) (f i)) (λ j. gain (limits j) (f j)) r
+    refuted-made r divisor balanced gap = record {
+      divisor = divisor;
+      weighing = weighing-made;
+      sets = λ c h. rw (serves-made c, costs-made c) (balanced c h);
+      gap = rw (sum-times true needs are-needs (lack P slots), sum-times false limits are-limits (room P slots)) gap;
+    }
+
+    pub refuted-with-made : (s m : ℕ) → ((c : ℕ) → In c list → up (over (both needs (bitAt c)) f) 1 ≤ over (butNot limits (bitAt c)) f / 1)
+        → over limits (λ j. f j * room P slots j) + m * over (both needs (bitAt s)) f < over needs (λ i. f i * lack P slots i) + m * over (butNot limits (bitAt s)) f
+        → RefutedWith P slots list (λ i. gain (needs i) (f i)) (λ j. gain (limits j) (f j)) s m
+    refuted-with-made s m balanced gap = record {
+      weighing = weighing-made;
+      sets = λ c h. rw (serves-made c, costs-made c) (omega (arith, balanced c h));
+      gap = rw (sum-times true needs are-needs (lack P slots), sum-times false limits are-limits (room P slots), serves-made s, costs-made s) gap;
+    }

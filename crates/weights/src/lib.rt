@@ -12,6 +12,9 @@ ghost use Rattle.counting.specs.Question.{problemOf, Small};
 ghost use Rattle.counting.specs.Stack.{slotsOf, Few};
 ghost use Rattle.listed.specs.Codes.{codesFrom};
 ghost use Rattle.weights.specs.Weighed.{weightAt, over, OnlyAsked, Balanced, boundOf, leftWeight};
+
+pub mod range;
+
 use counting::question;
 use counting::question::Question;
 use counting::stack;

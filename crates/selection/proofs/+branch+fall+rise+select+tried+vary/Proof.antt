@@ -2,9 +2,9 @@
 use mathlib.Core.Path.{_≡_, _∙_}
 use mathlib.Core.Logic.{_⊎_, by-cases}
 use mathlib.Core.Logic._⊎_.{inl, inr}
-use Prim.Native.Nat.{ℕ, suc, _+_, _-_, _*_, _<_, _≤_}
+use Prim.Native.Nat.{ℕ, suc, _+_, _-_, _*_, _<_, _≤_, zero-le}
 use native.Mathlib.Numerals.{add-one}
-use native.Mathlib.Decide.{ℕ-discrete}
+use native.Mathlib.Decide.{ℕ-discrete, decLe}
 use native.Mathlib.Omega.{arith}
 use borrow.Author.Needs.{needs}
 use borrow.Fn.Kinds.{In}
@@ -13,7 +13,7 @@ use Rattle.sets.specs.Set.{code}
 use Rattle.counting.specs.Question.{problemOf}
 use Rattle.selection.proofs.Selecting.{selected-met, selected-end, selecting-few, selecting-relaxing, selected-refuted, selected-solved, selecting-seen, selected-seen}
 use Rattle.selection.proofs.Varying.{tried-room, tried-space, tried-selecting, tried-some, tried-none}
-use Rattle.selection.proofs.Varying.{Without, without-start, without-varying, without-more, varied-found, varied-none}
+use Rattle.selection.proofs.Varying.{Without, without-start, without-varying, without-more, varied-found, varied-spanned, varied-none}
 use Rattle.selection.proofs.Varying.{selecting-next, selected-risen, risen-varying, selected-fallen}
 use Rattle.selection.proofs.Swapping.{swapped-selecting, selected-back}
 use Rattle.selection.proofs.branch.Reads as branch
@@ -40,6 +40,7 @@ use Rattle.counting.proofs.stack.put_slot.Reads as put-slot-reads
 use Rattle.packed.proofs.word_at.Reads as word-at-reads
 use Rattle.selection.proofs.relaxing.seen.Reads as seen-reads
 use Rattle.selection.proofs.smaller.Reads as smaller-reads
+use Rattle.selection.proofs.spanned.Reads as spanned-reads
 use Rattle.selection.proofs.swap.Reads as swap-reads
 use Rattle.selection.proofs.within.Reads as within-reads
 use Rattle.sets.proofs.Set.of_code.Reads as of-code-reads
@@ -131,7 +132,7 @@ branch-returns t c =
 
 -- what it calls
 abbrev fall-calls : ℕ → fall-lts.Claims
-fall-calls t = (tried-below t, tried.Post)
+fall-calls t = (tried-below t, tried.Post, spanned-reads.Asked, spanned-reads.Learnt)
 
 abbrev fall-Inv-loop : fall-lts.InvT-loop
 fall-Inv-loop entries q all words₀ at k slots b end m₀ words m = (m ≤ end) × Without (problemOf entries q) words₀ at k slots (code b) m end words
@@ -154,24 +155,43 @@ fall-returns t c =
 one-less : (m end j : ℕ) → 0 < m → m - 1 ≤ j → j < end → (j ≡ m - 1) ⊎ ((m ≤ j) × (j < end))
 one-less m end j pos more less = by-cases (ℕ-discrete j (m - 1)) (λ (is : j ≡ m - 1). inl is) (λ (not-it : ¬ (j ≡ m - 1)). inr (omega arith, less))
 
-fall-loop-again : (t : ℕ) → fall-lts.Need-loop-again (fall-calls t) (fall-at t) fall.Post fall-Inv-loop fall-μ-loop
-fall-loop-again t c = (
-  omega (arith, c .before .before .before .before .before .before .loop .inv .0),
-  without-more (c .before .before .before .before .before .before .before .before .before .pre .1) (c .before .before .before .before .before .before .loop .inv .1) (c .before .before .before .tried .kept .1 .1 .1 .0 ∙ c .before .before .before .before .before .before .loop .inv .1 .same-length) (rw (c .if1 .left) at (c .before .before .before .tried .ensures))
-      (λ j more less. one-less _ _ j (c .before .before .before .before .before .loop-test .taken) more less),
-)
+-- the number that was tried gives none
+fall-passed : (t : ℕ) (c : fall-lts.Else1 (fall-calls t) (fall-at t) fall.Post fall-Inv-loop fall-μ-loop)
+    → (let a = c .before .before .before .before .before .before .before .before .before .args in
+    Without (problemOf (a .entries .now) (a .q)) (a .words .now) (a .at) (a .k) (a .slots) (code (a .b)) (c .before .before .before .before .before .before .loop .m - 1) (a .end) (c .before .before .before .tried .last .1 .1 .1 .0))
+fall-passed t c =
+    without-more (c .before .before .before .before .before .before .before .before .before .pre .1) (c .before .before .before .before .before .before .loop .inv .1) (c .before .before .before .tried .kept .1 .1 .1 .0 ∙ c .before .before .before .before .before .before .loop .inv .1 .same-length) (rw (c .if1 .left) at (c .before .before .before .tried .ensures))
+    (λ j more less. one-less _ _ j (c .before .before .before .before .before .loop-test .taken) more less)
+
+fall-spanned-requires : (t : ℕ) → fall-lts.Need-spanned-requires (fall-calls t) (fall-at t) fall.Post fall-Inv-loop fall-μ-loop
+fall-spanned-requires t c κs =
+    let a = c .before .before .before .before .before .before .before .before .before .before .args in
+    (selecting-relaxing (a .entries .now) (a .q) (without-varying (c .before .before .before .before .before .before .before .before .before .before .pre .1) (fall-passed t (c .before)) {m = 0} zero-le .selecting), omega arith, omega (arith, c .before .before .before .before .before .before .before .loop .inv .0, c .before .before .before .before .before .before .before .before .before .before .pre .1 .small))
 
 fall-same-length-2 : (t : ℕ) → fall-lts.Need-same-length-2 (fall-calls t) (fall-at t) fall.Post fall-Inv-loop fall-μ-loop
-fall-same-length-2 t c = c .before .loop .inv .1 .same-length
+fall-same-length-2 t c = fall-passed t (c .before .before .before) .same-length
+
+-- the numbers up to one, and from it on
+up-to-or-from : (m end j : ℕ) → j < end → ((0 ≤ j) × (j < suc m)) ⊎ ((m ≤ j) × (j < end))
+up-to-or-from m end j less = by-cases (decLe m j) (λ (more : m ≤ j). inr (more, less)) (λ (not-more : ¬ (m ≤ j)). inl (zero-le, omega arith))
 
 fall-returns-2 : (t : ℕ) → fall-lts.Need-returns-2 (fall-calls t) (fall-at t) fall.Post fall-Inv-loop fall-μ-loop
-fall-returns-2 t c = varied-none (c .before .before .before .before .pre .1) (c .before .loop .inv .1) (omega arith) (omega arith)
+fall-returns-2 t c = varied-spanned (c .before .before .before .before .before .before .before .before .before .before .before .before .pre .1) (fall-passed t (c .before .before .before)) (c .before .spanned .ensures (c .if2 .taken)) (λ j more less. up-to-or-from _ _ j less)
+
+fall-loop-again : (t : ℕ) → fall-lts.Need-loop-again (fall-calls t) (fall-at t) fall.Post fall-Inv-loop fall-μ-loop
+fall-loop-again t c = (omega (arith, c .before .before .before .before .before .before .before .before .before .loop .inv .0), fall-passed t (c .before .before .before))
+
+fall-same-length-3 : (t : ℕ) → fall-lts.Need-same-length-3 (fall-calls t) (fall-at t) fall.Post fall-Inv-loop fall-μ-loop
+fall-same-length-3 t c = c .before .loop .inv .1 .same-length
+
+fall-returns-3 : (t : ℕ) → fall-lts.Need-returns-3 (fall-calls t) (fall-at t) fall.Post fall-Inv-loop fall-μ-loop
+fall-returns-3 t c = varied-none (c .before .before .before .before .pre .1) (c .before .loop .inv .1) (omega arith) (omega arith)
 
 -- ---- rise
 
 -- what it calls
 abbrev rise-calls : ℕ → rise-lts.Claims
-rise-calls t = (tried-below t, tried.Post)
+rise-calls t = (tried-below t, tried.Post, spanned-reads.Asked, spanned-reads.Learnt)
 
 abbrev rise-Inv-loop : rise-lts.InvT-loop
 rise-Inv-loop entries q all words₀ at k slots b start most m₀ words m = (start ≤ m) × Without (problemOf entries q) words₀ at k slots (code b) start m words
@@ -190,24 +210,43 @@ rise-returns t c =
     varied-found (c .before .before .before .before .before .before .before .before .before .pre .1) (c .before .before .before .before .before .before .loop .inv .1) (c .before .before .before .before .before .before .loop .inv .0) (omega (arith, c .before .before .before .before .before .loop-test .taken)) (rw (c .if1 .taken) at (c .before .before .before .tried .ensures))
 
 rise-add-m : (t : ℕ) → rise-lts.Need-add-m (rise-calls t) (rise-at t) rise.Post rise-Inv-loop rise-μ-loop
-rise-add-m t c = record { fits = omega (arith, c .before .before .before .before .before .loop-test .taken, c .before .before .before .before .before .before .before .before .before .pre .1 .small) }
+rise-add-m t c = record { fits = omega (arith, c .before .before .before .before .before .before .before .before .loop-test .taken, c .before .before .before .before .before .before .before .before .before .before .before .before .pre .1 .small) }
 
 -- the numbers up to one more
 one-more : (start m j : ℕ) → start ≤ j → j < m + 1 → (j ≡ m) ⊎ ((start ≤ j) × (j < m))
 one-more start m j more less = by-cases (ℕ-discrete j m) (λ (is : j ≡ m). inl is) (λ (not-it : ¬ (j ≡ m)). inr (more, omega arith))
 
-rise-loop-again : (t : ℕ) → rise-lts.Need-loop-again (rise-calls t) (rise-at t) rise.Post rise-Inv-loop rise-μ-loop
-rise-loop-again t c = (
-  omega (arith, c .before .before .before .before .before .before .loop .inv .0),
-  without-more (c .before .before .before .before .before .before .before .before .before .pre .1) (c .before .before .before .before .before .before .loop .inv .1) (c .before .before .before .tried .kept .1 .1 .1 .0 ∙ c .before .before .before .before .before .before .loop .inv .1 .same-length) (rw (c .if1 .left) at (c .before .before .before .tried .ensures))
-      (λ j more less. one-more _ _ j more less),
-)
+-- the number that was tried gives none
+rise-passed : (t : ℕ) (c : rise-lts.Else1 (rise-calls t) (rise-at t) rise.Post rise-Inv-loop rise-μ-loop)
+    → (let a = c .before .before .before .before .before .before .before .before .before .args in
+    Without (problemOf (a .entries .now) (a .q)) (a .words .now) (a .at) (a .k) (a .slots) (code (a .b)) (a .start) (c .before .before .before .before .before .before .loop .m + 1) (c .before .before .before .tried .last .1 .1 .1 .0))
+rise-passed t c =
+    without-more (c .before .before .before .before .before .before .before .before .before .pre .1) (c .before .before .before .before .before .before .loop .inv .1) (c .before .before .before .tried .kept .1 .1 .1 .0 ∙ c .before .before .before .before .before .before .loop .inv .1 .same-length) (rw (c .if1 .left) at (c .before .before .before .tried .ensures))
+    (λ j more less. one-more _ _ j more less)
+
+rise-spanned-requires : (t : ℕ) → rise-lts.Need-spanned-requires (rise-calls t) (rise-at t) rise.Post rise-Inv-loop rise-μ-loop
+rise-spanned-requires t c κs =
+    let a = c .before .before .before .before .before .before .before .before .before .before .args in
+    (selecting-relaxing (a .entries .now) (a .q) (without-varying (c .before .before .before .before .before .before .before .before .before .before .pre .1) (rise-passed t (c .before)) {m = 0} zero-le .selecting), omega (arith, c .before .before .before .before .before .before .loop-test .taken, c .before .before .before .before .before .before .before .before .before .before .pre .1 .small), c .before .before .before .before .before .before .before .before .before .before .pre .1 .small)
 
 rise-same-length-2 : (t : ℕ) → rise-lts.Need-same-length-2 (rise-calls t) (rise-at t) rise.Post rise-Inv-loop rise-μ-loop
-rise-same-length-2 t c = c .before .loop .inv .1 .same-length
+rise-same-length-2 t c = rise-passed t (c .before .before .before) .same-length
+
+-- the numbers from one on, and up to it
+from-or-up-to : (start m most j : ℕ) → start ≤ j → j < suc most → ((m ≤ j) × (j < suc most)) ⊎ ((start ≤ j) × (j < m + 1))
+from-or-up-to start m most j more less = by-cases (decLe m j) (λ (from : m ≤ j). inl (from, less)) (λ (not-from : ¬ (m ≤ j)). inr (more, omega arith))
 
 rise-returns-2 : (t : ℕ) → rise-lts.Need-returns-2 (rise-calls t) (rise-at t) rise.Post rise-Inv-loop rise-μ-loop
-rise-returns-2 t c = varied-none (c .before .before .before .before .pre .1) (c .before .loop .inv .1) (omega arith) (omega (arith, c .loop-test .left))
+rise-returns-2 t c = varied-spanned (c .before .before .before .before .before .before .before .before .before .before .before .before .pre .1) (rise-passed t (c .before .before .before)) (c .before .spanned .ensures (c .if2 .taken)) (λ j more less. from-or-up-to _ _ _ j more less)
+
+rise-loop-again : (t : ℕ) → rise-lts.Need-loop-again (rise-calls t) (rise-at t) rise.Post rise-Inv-loop rise-μ-loop
+rise-loop-again t c = (omega (arith, c .before .before .before .before .before .before .before .before .before .loop .inv .0), rise-passed t (c .before .before .before))
+
+rise-same-length-3 : (t : ℕ) → rise-lts.Need-same-length-3 (rise-calls t) (rise-at t) rise.Post rise-Inv-loop rise-μ-loop
+rise-same-length-3 t c = c .before .loop .inv .1 .same-length
+
+rise-returns-3 : (t : ℕ) → rise-lts.Need-returns-3 (rise-calls t) (rise-at t) rise.Post rise-Inv-loop rise-μ-loop
+rise-returns-3 t c = varied-none (c .before .before .before .before .pre .1) (c .before .loop .inv .1) (omega arith) (omega (arith, c .loop-test .left))
 
 -- ---- select
 
@@ -328,10 +367,13 @@ pub +branch+fall+rise+select+tried+vary-spec : {M : Type 1} → statement M
     (fall-tried-requires t)
     (fall-same-length t)
     (fall-returns t)
+    (fall-spanned-requires t)
+    (fall-same-length-2 t)
+    (fall-returns-2 t)
     (λ c. search needs)
     (fall-loop-again t)
-    (fall-same-length-2 t)
-    (fall-returns-2 t))
+    (fall-same-length-3 t)
+    (fall-returns-3 t))
     (λ t. rise-lts.spec (rise-calls t) (rise-at t) rise.Post
     rise-Inv-loop
     rise-μ-loop
@@ -339,11 +381,14 @@ pub +branch+fall+rise+select+tried+vary-spec : {M : Type 1} → statement M
     (rise-tried-requires t)
     (rise-same-length t)
     (rise-returns t)
+    (rise-spanned-requires t)
+    (rise-same-length-2 t)
+    (rise-returns-2 t)
     (rise-add-m t)
     (λ c. search needs)
     (rise-loop-again t)
-    (rise-same-length-2 t)
-    (rise-returns-2 t))
+    (rise-same-length-3 t)
+    (rise-returns-3 t))
     (λ t. select-lts.spec (select-calls t) (select-at t) select.Post
     (select-met-requires t)
     (λ c. search needs)

@@ -17,7 +17,7 @@ returns-4 c so =
     let limits = gap .before .before .before .before .asked2 .ensures in
     let less = rw (gap .before .rounded-up .ensures, gap .before .before .before .left .ensures .0, gap .before .before .left2 .ensures .0) at (gap .if3 .left) in
     no-extension
-    (refuted-made _ (start .pre .0 .few) (weightAt (a .words .now) (a .from)) _ _ _ _ (a .r) needs limits (omega (arith, gap .before .before .before .before .before .before .before .if1 .left)) (c .all-balanced .ensures so) less)
+    (refuted-made _ (start .pre .0 .few) (weightAt (a .words .now) (a .from)) _ _ _ _ needs limits (a .r) (omega (arith, gap .before .before .before .before .before .before .before .if1 .left)) (c .all-balanced .ensures so) less)
 
 pub refutes-spec : {M : Type 1} → statement M
 refutes-spec =
