@@ -1,4 +1,6 @@
 -- what a slot says, and what one that is written changes
-pub mod Slots
+pub mod Slot
 -- slots in words that are lent on and come back
 pub mod Moved
+-- what the answer to one question tells of another
+pub mod Easier

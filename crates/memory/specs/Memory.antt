@@ -35,16 +35,36 @@ abbrev pub StandsFor : ℕ → Remembered → Type 0
 StandsFor last (Remembered.Answer answer) = last ≡ mark answer
 StandsFor last Remembered.Nothing = Unit {0}
 
--- a slot's place among the words, if there is room for any
-abbrev pub PlaceIs : (from words : ℕ) → Place → Type 0
-PlaceIs from words (Place.At at) = (k : ℕ) × (k < 16384) × (at ≡ from + 3 * k) × (at + 3 ≤ words)
-PlaceIs from words Place.Nowhere = Unit {0}
+-- there is room among the words for a slot, which is one of the first 16,384
+abbrev pub Fits : (from words k : ℕ) → Type 0
+Fits from words k = (k < 16384) × (from + 3 * k + 3 ≤ words)
+
+-- there is room for so many slots
+abbrev pub SlotsIs : (from words n : ℕ) → Type 0
+SlotsIs from words n = (k : ℕ) → k < n → Fits from words k
+
+-- the first of two slots, one behind the other, if there is room for any
+abbrev pub PairIs : (from words : ℕ) → Place → Type 0
+PairIs from words (Place.At k) = Fits from words (k + 1)
+PairIs from words Place.Nowhere = Unit {0}
+
+-- three words were written: the words before the slots are as they were, and the slots still say what is so if the new one does
+pub record Written (from yes no last : ℕ) (before after : List ℕ) : Type 0 where
+  pub same-length : length after ≡ length before
+  pub same : take from after ≡ take from before
+  pub memory : (entry : ℕ → Entry) → Memory entry before from → Recalled entry yes no last → Memory entry after from
 
 -- an answer was stored: the words before the slots are as they were, and the slots still say what is so
 pub record Stored (from : ℕ) (yes no : ℕ → Bool) (answer : Bool) (before after : List ℕ) : Type 0 where
   pub same-length : length after ≡ length before
   pub same : take from after ≡ take from before
   pub memory : (entry : ℕ → Entry) → Memory entry before from → Answers answer (Sat entry yes no) → Memory entry after from
+
+-- slots were moved: the words before them are as they were, and the slots still say what is so
+pub record Shifted (from : ℕ) (before after : List ℕ) : Type 0 where
+  pub same-length : length after ≡ length before
+  pub same : take from after ≡ take from before
+  pub memory : (entry : ℕ → Entry) → Memory entry before from → Memory entry after from
 
 -- nothing is remembered: the slots say nothing, whatever table is asked about
 pub record Forgotten (from : ℕ) (before after : List ℕ) : Type 0 where

@@ -1,15 +1,25 @@
 // Questions that have been answered, kept in lent words: a slot is the set wanted true, the set wanted false, and the
-// answer. A slot is found by its sets and overwritten freely; questions that are dear to answer have slots of their own.
-ghost use mathlib.Core.Path.{_≡_};
-ghost use Prim.Native.Nat.{ℕ, min, _<_};
+// answer. Few slots are for what is learnt, which tells of other questions too. Of the others, half are for questions that
+// are dear to answer. All are overwritten freely.
+ghost use Prim.Native.Nat.{ℕ, _+_};
+ghost use lib.ListN.{length};
 ghost use Rattle.sets.specs.Set.{member};
 ghost use Rattle.table.specs.declared.entry.Entry.{Entry};
-ghost use Rattle.memory.specs.Memory.{mark, Memory, RecallIs, StandsFor, PlaceIs, Stored, Forgotten};
+ghost use Rattle.memory.specs.Memory.{Memory, RecallIs, StandsFor, Fits, PairIs, Stored, Shifted, Forgotten};
+
+pub mod learnt;
+pub mod slots;
+
+use learnt::witnessed;
 use packed::word_at;
 use sets::Set;
-use std::num;
+use slots::learnt_in;
+use slots::put;
+use slots::slots_in;
+use slots::spread;
+use slots::store;
 
-// Where a slot begins, if there is room for any.
+// A slot, if there is room for any.
 pub enum Place {
     At(usize),
     Nowhere,
@@ -21,51 +31,23 @@ pub enum Remembered {
     Nothing,
 }
 
-// A number by which to spread questions over slots. Every bit of both words has a part in it: sets that differ in high
-// members only would else meet in one slot, and each would be answered again and again.
-fn spread(yes: u64, no: u64) -> u64 {
-    let a = (yes % 4294967291) * 2654435769;
-    let b = (no % 4294967279) * 2246822519;
-    num::wrapping_add_u64(a, b) >> 32
-}
-
-fn fewer(a: usize, b: usize) -> usize
-    ensures { λ r. ⌜ r ≡ min a b ⌝ }
-{
-    if a < b { a } else { b }
-}
-
-// The slot of a question with this number. A third of the slots is for those that are dear, so that many cheap ones do not
-// push them out.
-fn slot_of(number: usize, slots: usize, dear: bool) -> usize
-    requires { ⌜ 0 < slots ⌝ }
-    ensures { λ r. ⌜ r < slots ⌝ }
-{
-    let share = slots / 3;
-    if share == 0 {
-        return number % slots;
-    }
-    if dear {
-        number % share
-    } else {
-        share + number % (slots - share)
-    }
-}
-
-// The place of a question's slot among so many words, the slots beginning at a place.
+// The first of the two slots of a question, among so many words. Those that are dear have slots of their own, so that many
+// cheap ones do not push them out.
 fn find(words: usize, from: usize, yes: Set, no: Set, dear: bool) -> Place
-    ensures { λ r. ⌜ PlaceIs from words r ⌝ }
+    ensures { λ r. ⌜ PairIs from words r ⌝ }
 {
-    if words <= from {
+    let slots = slots_in(words, from);
+    let first = 2 * learnt_in(slots);
+    let pairs = (slots - first) / 4;
+    if pairs == 0 {
         return Place::Nowhere;
     }
-    let slots = fewer((words - from) / 3, 16384);
-    if slots == 0 {
-        return Place::Nowhere;
+    let pair = spread(yes, no, pairs);
+    if dear {
+        Place::At(first + 2 * pair)
+    } else {
+        Place::At(first + 2 * (pairs + pair))
     }
-    let number = spread(yes.code(), no.code()) as usize;
-    let slot = slot_of(number, slots, dear);
-    Place::At(from + 3 * slot)
 }
 
 // The answer that a slot's last word stands for.
@@ -79,20 +61,12 @@ fn answer_of(last: u64) -> Remembered
     }
 }
 
-// The word that stands for an answer.
-fn mark_of(answer: bool) -> u64
-    ensures { λ r. ⌜ r ≡ mark answer ⌝ }
-{
-    if answer { 1 } else { 2 }
-}
-
-// Whether some world makes one set of entries true and another false, if that is remembered in the slots from a place on.
-pub fn recall(words: &[u64], from: usize, yes: Set, no: Set, dear: bool) -> Remembered
+// What a slot says of a question, if it is that of the slot.
+fn recall_at(words: &[u64], from: usize, slot: usize, yes: Set, no: Set) -> Remembered
+    requires { ⌜ Fits from (length (now words)) slot ⌝ }
     ensures { λ r. ⌜ ((entry : ℕ → Entry) → Memory entry (now (words .entry)) from → RecallIs entry (member yes) (member no) r) ⌝ }
 {
-    let Place::At(at) = find(words.len(), from, yes, no, dear) else {
-        return Remembered::Nothing;
-    };
+    let at = from + 3 * slot;
     if word_at(words, at) != yes.code() {
         return Remembered::Nothing;
     }
@@ -102,16 +76,57 @@ pub fn recall(words: &[u64], from: usize, yes: Set, no: Set, dear: bool) -> Reme
     answer_of(word_at(words, at + 2))
 }
 
-// Stores an answer, over another one if need be.
+// The answer in one of the two slots of a question.
+fn stored_answer(words: &[u64], from: usize, yes: Set, no: Set, dear: bool) -> Remembered
+    ensures { λ r. ⌜ ((entry : ℕ → Entry) → Memory entry (now (words .entry)) from → RecallIs entry (member yes) (member no) r) ⌝ }
+{
+    let Place::At(slot) = find(words.len(), from, yes, no, dear) else {
+        return Remembered::Nothing;
+    };
+    match recall_at(words, from, slot, yes, no) {
+        Remembered::Answer(answer) => Remembered::Answer(answer),
+        Remembered::Nothing => recall_at(words, from, slot + 1, yes, no),
+    }
+}
+
+// Whether some world makes one set of entries true and another false, if that is remembered in the slots from a place on,
+// or shown by what is learnt.
+pub fn recall(words: &[u64], from: usize, yes: Set, no: Set, dear: bool) -> Remembered
+    ensures { λ r. ⌜ ((entry : ℕ → Entry) → Memory entry (now (words .entry)) from → RecallIs entry (member yes) (member no) r) ⌝ }
+{
+    match stored_answer(words, from, yes, no, dear) {
+        Remembered::Answer(answer) => Remembered::Answer(answer),
+        Remembered::Nothing => {
+            if witnessed(words, from, yes, no) {
+                Remembered::Answer(true)
+            } else {
+                Remembered::Nothing
+            }
+        }
+    }
+}
+
+// Copies a slot over the one behind it.
+fn shift(words: &mut [u64], from: usize, slot: usize)
+    requires { ⌜ Fits from (length (now words)) (slot + 1) ⌝ }
+    ensures { λ r. ⌜ Shifted from (now (words .entry)) (now (words .exit)) ⌝ }
+{
+    let at = from + 3 * slot;
+    let yes = word_at(words, at);
+    let no = word_at(words, at + 1);
+    let last = word_at(words, at + 2);
+    put(words, from, slot + 1, yes, no, last);
+}
+
+// Stores an answer in the first slot of its question. What was there moves to the second one, over what that had.
 pub fn remember(words: &mut [u64], from: usize, yes: Set, no: Set, dear: bool, answer: bool)
     ensures { λ r. ⌜ Stored from (member yes) (member no) answer (now (words .entry)) (now (words .exit)) ⌝ }
 {
-    let Place::At(at) = find(words.len(), from, yes, no, dear) else {
+    let Place::At(slot) = find(words.len(), from, yes, no, dear) else {
         return;
     };
-    words[at] = yes.code();
-    words[at + 1] = no.code();
-    words[at + 2] = mark_of(answer);
+    shift(words, from, slot);
+    store(words, from, slot, yes, no, answer);
 }
 
 // Forgets everything: the words of the slots become 0.
