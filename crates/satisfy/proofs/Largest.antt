@@ -131,7 +131,7 @@ module _ (P : Problem) where
       reaches = h .reaches;
       memory = h .memory;
     }
-    listing-from some room before mid after same Listing.Full h = h
+    listing-from some room before mid after same (Listing.Full all) h = h
 
     -- the set of all that is looked for can be kept
     pub listing-also : (before after : List ℕ) (b : ℕ) → listRoom (P .n) ≤ level → Lists P k level before → Remembers (P .entry) depth level before → Fit P b
@@ -142,7 +142,7 @@ module _ (P : Problem) where
       reaches = λ row f least most i asks promised. (b, appended .new, λ j h. above j (most j h));
       memory = memory-moved (P .entry) after (suc depth * level) memory (λ i. appended .elsewhere (suc depth * level + i) (omega (arith, suc-mul depth level)));
     })
-    listing-also before after b room lists memory fit above Listing.Full same = rw same memory
+    listing-also before after b room lists memory fit above (Listing.Full all) (is, same) = rw (is, same) (record { lists = lists; memory = memory })
 
 -- a row that serves a need has one of what is looked for
 pub reaches-none : (P : Problem) (s : Set) (low high : ℕ → Bool) (list : List ℕ) → member s ≡ high → NoNeed P s (λ j. j < P .n) → Reaches P low high list
@@ -189,7 +189,7 @@ module _ (P : Problem) (low free : ℕ → Bool) (i : ℕ) where
         reaches-branch longer (reaches-older P low (either low (removed free i)) (listOf (P .n) level mid more) longer (second .older) (first .reaches)) (second .reaches);
     memory = second .memory;
   }
-  listing-branch depth level more before mid after first Listing.Full second = second
+  listing-branch depth level more before mid after first (Listing.Full all) second = second
 
 -- what is left of the core cannot be kept beside it
 pub core-had : (P : Problem) (low core : ℕ → Bool) (i : ℕ) → Unkept P (either low core) → Unkept P (either (added low i) (removed core i))

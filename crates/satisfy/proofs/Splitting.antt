@@ -81,13 +81,8 @@ module _ {entry : ℕ → Entry} {n d bound depth : ℕ} {w : Wants} (at : Waiti
       shallow = rw (light .0, light .1) shallow;
     }
 
-    pub light-sound : GrowsW w v → SatW entry u → SatW entry w
-    light-sound grows sat = record {
-      structure = sat .structure;
-      world = sat .world;
-      inside = sat .inside;
-      meets = meets-fewer grows (rw (← light .0, ← light .1) (sat .meets));
-    }
+    pub light-sound : GrowsW w v → (s : Structure) (x : ℕ) → MeetsW entry s x u → MeetsW entry s x w
+    light-sound grows s x m = meets-fewer grows (rw (← light .0, ← light .1) m)
 
 module _ {entry : ℕ → Entry} {n d depth : ℕ} {w : Wants} (ready : Ready entry n w 64 depth) (top : Greatest (member (w .pending)) d) where
   pub waiting : Waiting entry n w d 64 depth
@@ -119,7 +114,12 @@ module _ {entry : ℕ → Entry} {n d depth : ℕ} {w : Wants} (ready : Ready en
   branched case v u settled grows part pending shallow complete light = record {
     ready = light-ready waiting v u light settled part
         (λ j h other. ⊎-elim (λ (old : member (w .pending) j ≡ true). below-top j old other) (λ (l : j < d). l) (pending j h)) shallow;
-    sound = light-sound waiting v u light grows;
+    sound = λ sat. record {
+      structure = sat .structure;
+      world = sat .world;
+      inside = sat .inside;
+      meets = light-sound waiting v u light grows (sat .structure) (sat .world) (sat .meets);
+    };
     complete = λ s x m case-of. rw (light .0, light .1) (complete s x m case-of);
   }
     where

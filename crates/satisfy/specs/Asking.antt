@@ -6,7 +6,7 @@ use Prim.Native.Nat.{ℕ, suc, _+_, _-_, _*_, _<_, _≤_}
 use lib.ListN.{length, take}
 use Rattle.semantics.specs.Structure.{Structure}
 use Rattle.sets.specs.declared.Set.{Set}
-use Rattle.sets.specs.Set.{member, code, Within}
+use Rattle.sets.specs.Set.{member, nothing, code, Within}
 use Rattle.sets.specs.Word.{Greatest}
 use Rattle.table.specs.declared.entry.Entry.{Entry}
 use Rattle.table.specs.Space.{gradeSum}
@@ -59,18 +59,10 @@ module _ (entry : ℕ → Entry) where
     pub room : Roomy entry n depth level (length work)
     pub memory : Remembers entry depth level work
 
-  -- a successor is asked for, at a world one less deep
-  pub record NextAsked (n : ℕ) (w : Wants) (depth level : ℕ) (work : List ℕ) : Type 0 where
-    pub ready : Ready entry n w 64 (depth - 1)
-    pub deep : 0 < depth
-    pub room : Roomy entry n depth level (length work)
-    pub memory : Remembers entry depth level work
-
-  -- can the successor be had; the words of the level are as before
-  pub record Had (w : Wants) (depth level : ℕ) (before after : List ℕ) (r : Bool) : Type 0 where
-    pub answers : Answers r (SatW entry w)
-    pub same : take level after ≡ take level before
-    pub memory : Remembers entry depth level after
+  -- nothing is pending
+  pub record LeafAsked (n : ℕ) (w : Wants) (depth level : ℕ) (work : List ℕ) : Type 0 where
+    pub count : CountAsked n w depth level work
+    pub none : member (w .pending) ≡ nothing
 
   -- the relations of the counting entries that are not in `rest` have solutions
   pub record Solving (w : Wants) (rest : ℕ → Bool) : Type 0 where
@@ -92,6 +84,13 @@ module _ (P : Problem) where
     pub promising : Promising P (asking P) (depth - 1)
     pub deep : 0 < depth
     pub all-asking : member all ≡ asking P
+    pub room : Roomy (P .entry) (P .n) depth level (length work)
+    pub memory : Remembers (P .entry) depth level work
+
+  -- some of its needs and limits are tried alone
+  pub record WithoutAsked (depth level : ℕ) (work : List ℕ) : Type 0 where
+    pub promising : Promising P (asking P) (depth - 1)
+    pub deep : 0 < depth
     pub room : Roomy (P .entry) (P .n) depth level (length work)
     pub memory : Remembers (P .entry) depth level work
 

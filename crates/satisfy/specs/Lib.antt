@@ -9,8 +9,10 @@ pub mod Promise
 pub mod Relation
 -- what the functions that call each other ask and answer
 pub mod Asking
--- the list of largest sets of promises
+-- lists of sets of promises
 pub mod Listing
+-- what is learnt
+pub mod Learning
 -- a solution found by serving one need after the other
 pub mod Greedy
 -- the question through two sets

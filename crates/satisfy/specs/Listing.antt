@@ -32,7 +32,7 @@ listOf n level work k = codesFrom work (level - listRoom n) k
 -- one more set is listed, or there is no room
 abbrev pub AlsoIs : (n level k b : ℕ) (before after : List ℕ) → Listing → Type 0
 AlsoIs n level k b before after (Listing.Room more) = (more ≡ suc k) × (suc k ≤ listRoom n) × Appended before (level - listRoom n) k b after
-AlsoIs n level k b before after Listing.Full = after ≡ before
+AlsoIs n level k b before after (Listing.Full all) = (all ≡ k) × (after ≡ before)
 
 module _ (P : Problem) where
   -- no row that may stand in a solution promises all of p
@@ -64,6 +64,11 @@ module _ (P : Problem) where
     pub within : Within core free
     pub unkept : Unkept (either low core)
 
+  -- k fit sets are listed
+  pub record FitList (k depth level : ℕ) (after : List ℕ) : Type 0 where
+    pub lists : Lists k level after
+    pub memory : Remembers (P .entry) depth level after
+
   -- the largest of them are listed, and what was listed before is
   pub record ListedMore (low high : ℕ → Bool) (k depth level : ℕ) (before after : List ℕ) (more : ℕ) : Type 0 where
     pub lists : Lists more level after
@@ -73,7 +78,7 @@ module _ (P : Problem) where
 
   abbrev pub ListingIs : (low high : ℕ → Bool) (k depth level : ℕ) (before after : List ℕ) → Listing → Type 0
   ListingIs low high k depth level before after (Listing.Room more) = ListedMore low high k depth level before after more
-  ListingIs low high k depth level before after Listing.Full = Remembers (P .entry) depth level after
+  ListingIs low high k depth level before after (Listing.Full all) = FitList all depth level after
 
   -- `low` and `free` cannot be kept together
   pub record CoreAsked (low free : ℕ → Bool) (depth level : ℕ) (work : List ℕ) : Type 0 where
@@ -106,21 +111,16 @@ module _ (P : Problem) where
     pub memory : Remembers (P .entry) depth level work
     pub lists : Lists k level work
 
-  -- k fit sets are listed; the weights only say what to try next
-  pub record WeighsIs (k depth level : ℕ) (after : List ℕ) : Type 0 where
-    pub lists : Lists k level after
-    pub memory : Remembers (P .entry) depth level after
-
-  -- sets that are listed are fit; of the entries that are guessed to have no solution nothing is promised
+  -- sets that are listed are fit; of weights and of the entries that are guessed to have no solution nothing is promised
   abbrev pub GuessIs : (depth level : ℕ) → List ℕ → Guess → Type 0
-  GuessIs depth level after (Guess.Among k) = WeighsIs k depth level after
+  GuessIs depth level after (Guess.Among k) = FitList k depth level after
   GuessIs depth level after (Guess.Without s) = Remembers (P .entry) depth level after
   GuessIs depth level after Guess.Nothing = Remembers (P .entry) depth level after
 
   -- what a list says of the problem
   abbrev pub SaidIs : Said → Type 0
   SaidIs Said.Yes = Solvable P
-  SaidIs Said.No = Solvable P → ⊥
+  SaidIs (Said.No s) = Solvable P → ⊥
   SaidIs Said.Nothing = Unit {0}
 
 -- the question p of those entries of the question q that are in a set

@@ -59,7 +59,7 @@ pub fn satisfiable(
     ensures { λ r. ⌜ Answers r (Sat (wideAt (now (entries .entry))) (member yes) (member no)) ⌝ }
 {
     match settle(entries, yes, no, depth) {
-        Outcome::Settled(v) => world(entries, v, 64, Set::empty(), depth, level, work),
+        Outcome::Settled(v) => world(entries, v, 64, depth, level, work),
         Outcome::Clash => false,
     }
 }

@@ -2,6 +2,7 @@
 pub mod ask;
 pub mod branch;
 pub mod force;
+pub mod learning;
 pub mod listing;
 pub mod promise;
 pub mod relation;

@@ -7,24 +7,27 @@ ghost use lib.ListN.{length};
 ghost use Rattle.sets.specs.Set.{member, code, Within};
 ghost use Rattle.listed.specs.Codes.{Inside};
 ghost use Rattle.wide.specs.Wide.{wideAt};
-ghost use Rattle.counting.specs.Question.{problemOf};
+ghost use Rattle.counting.specs.Question.{problemOf, Small};
 ghost use Rattle.selection.specs.Selecting.{SolvedIs};
 ghost use Rattle.satisfy.specs.Asking.{listRoom, Remembers};
-ghost use Rattle.satisfy.specs.Listing.{Placed, listOf, AlsoIs, SelectAsked, WeighAsked, WeighsIs, NarrowedIs};
+ghost use Rattle.satisfy.specs.Listing.{Placed, listOf, AlsoIs, SelectAsked, WeighAsked, FitList, NarrowedIs};
+use counting::bounds::unmet;
 use counting::question::Question;
+use counting::question::closed;
 use listed::append;
 use listed::covered;
 use selection::pricing::Prices;
 use selection::pricing::prices_from;
+use selection::pricing::weighing;
 use selection::relaxing::weights;
 use selection::solved;
 use sets::Highest;
 use sets::Set;
 
-// How many sets are listed, if there was room.
+// How many sets are listed: all that there are, or as many as there is room for.
 pub enum Listing {
     Room(usize),
-    Full,
+    Full(usize),
 }
 
 // Where a solution may be looked for.
@@ -41,8 +44,8 @@ pub enum Guess {
 pub enum Said {
     // It has a solution.
     Yes,
-    // It has none.
-    No,
+    // It has none, and these entries are guessed to be the reason.
+    No(Set),
     // The list had no room, or does not stand for all sets.
     Nothing,
 }
@@ -70,7 +73,7 @@ pub fn also(entries: &[u64], set: Set, k: usize, level: usize, work: &mut [u64])
 {
     let n = entries.len();
     if 8 * n + 8 <= k {
-        return Listing::Full;
+        return Listing::Full(k);
     }
     append(work, place(n, level), k, set);
     Listing::Room(k + 1)
@@ -115,7 +118,7 @@ pub fn weighs(
     work: &mut [u64],
 ) -> bool
     requires { ⌜ WeighAsked (problemOf (now entries) q) k depth level (now work) ⌝ }
-    ensures { λ r. ⌜ WeighsIs (problemOf (now (entries .entry)) q) k depth level (now (work .exit)) ⌝ }
+    ensures { λ r. ⌜ FitList (problemOf (now (entries .entry)) q) k depth level (now (work .exit)) ⌝ }
 {
     let at = place(entries.len(), level);
     let reach = (depth + 1) * level;
@@ -128,6 +131,24 @@ pub fn prices_behind(entries: &[u64], q: Question, k: usize, level: usize, work:
 {
     let at = place(entries.len(), level);
     prices_from(entries, q, work, at + k)
+}
+
+// The entries that are guessed to have no solution: these, and the limits that allow none, which every listed set promises.
+pub fn blamed(entries: &[u64], q: Question, weighted: Set) -> Set
+    requires { ⌜ Small (problemOf (now entries) q) ⌝ }
+{
+    weighted.union(closed(entries, q))
+}
+
+// The same where k listed sets gave no solution: what the weights behind the list speak of, or a need, if none is served.
+pub fn blamed_behind(entries: &[u64], q: Question, k: usize, level: usize, work: &[u64]) -> Set
+    requires { ⌜ Small (problemOf (now entries) q) × Placed (length (now entries)) k level (length (now work)) ⌝ }
+{
+    if k == 0 {
+        return blamed(entries, q, highest_of(unmet(entries, q, work, 0)));
+    }
+    let at = place(entries.len(), level);
+    blamed(entries, q, weighing(work, at + k))
 }
 
 // Whether all the largest sets are likely to be listed soon: there are few promises, and no successor counts further, so

@@ -11,15 +11,19 @@ ghost use Rattle.tableau.specs.Wants.{Answers};
 ghost use Rattle.tableau.specs.Search.{Solvable};
 ghost use Rattle.counting.specs.Question.{problemOf};
 ghost use Rattle.satisfy.specs.World.{SatW};
-ghost use Rattle.satisfy.specs.Asking.{WorldAsked, CaseAsked, CaseAnswers, CountAsked, CountAnswers, RelationAsked, ProblemAsked, PromisesAsked, NextAsked, Kept, Opposed, Had, Remembers};
+ghost use Rattle.satisfy.specs.Asking.{WorldAsked, CaseAsked, CaseAnswers, CountAsked, CountAnswers, LeafAsked, RelationAsked, ProblemAsked, PromisesAsked, WithoutAsked, Kept, Opposed, Remembers};
 ghost use Rattle.satisfy.specs.Greedy.{GrowAsked, GrownIs, GreedyIs};
 ghost use Rattle.satisfy.specs.Listing.{ListAsked, BranchAsked, ListingIs, CoreAsked, CoreIs, SaidIs, GuessIs};
 use crate::branch::branch;
 use crate::force::force;
+use crate::learning::learn_refuted;
+use crate::learning::learn_world;
 use crate::listing::Guess;
 use crate::listing::Listing;
 use crate::listing::Said;
 use crate::listing::also;
+use crate::listing::blamed;
+use crate::listing::blamed_behind;
 use crate::listing::highest_of;
 use crate::listing::is_short;
 use crate::listing::known;
@@ -65,7 +69,6 @@ pub fn world(
     entries: &[u64],
     w: Wants,
     bound: usize,
-    known: Set,
     depth: usize,
     level: usize,
     work: &mut [u64],
@@ -73,19 +76,17 @@ pub fn world(
     requires { ⌜ WorldAsked (wideAt (now entries)) (length (now entries)) w bound depth level (now work) ⌝ }
     ensures { λ r. ⌜ Answers r (SatW (wideAt (now (entries .entry))) w) × Remembers (wideAt (now (entries .entry))) depth level (now (work .exit)) ⌝ }
 {
-    match force(entries, w, bound, depth) {
-        Outcome::Settled(v) => split(entries, v, bound, known, depth, level, work),
+    match force(entries, w, bound, depth, level, work) {
+        Outcome::Settled(v) => split(entries, v, bound, depth, level, work),
         Outcome::Clash => false,
     }
 }
 
-// The same, by a split of the highest pending entry. Before it the relations are asked: a relation without a solution settles
-// both cases. That is left out where nothing is counted beyond what is known to have solutions.
+// The same, by a split of the highest pending entry.
 fn split(
     entries: &[u64],
     w: Wants,
     bound: usize,
-    known: Set,
     depth: usize,
     level: usize,
     work: &mut [u64],
@@ -95,16 +96,15 @@ fn split(
 {
     let pending = w.pending;
     let Highest::At(d) = pending.highest() else {
-        return relations(entries, w, depth, level, work);
+        return leaf(entries, w, depth, level, work);
     };
-    let counts = counted(entries, w);
-    if refuted(entries, w, counts.minus(known), depth, level, work) {
+    if refuted(entries, w, bound, depth, level, work) {
         return false;
     }
-    if case_holds(entries, w, d, true, counts, depth, level, work) {
+    if case_holds(entries, w, d, true, depth, level, work) {
         return true;
     }
-    case_holds(entries, w, d, false, counts, depth, level, work)
+    case_holds(entries, w, d, false, depth, level, work)
 }
 
 // Whether some world is as wanted, looked for in one case of the split of entry d.
@@ -113,7 +113,6 @@ fn case_holds(
     w: Wants,
     d: usize,
     case: bool,
-    known: Set,
     depth: usize,
     level: usize,
     work: &mut [u64],
@@ -122,16 +121,17 @@ fn case_holds(
     ensures { λ r. ⌜ CaseAnswers (wideAt (now (entries .entry))) w d case r × Remembers (wideAt (now (entries .entry))) depth level (now (work .exit)) ⌝ }
 {
     match branch(entries, w, d, case, depth) {
-        Outcome::Settled(v) => world(entries, v, d, known, depth, level, work),
+        Outcome::Settled(v) => world(entries, v, d, depth, level, work),
         Outcome::Clash => false,
     }
 }
 
-// Whether a relation is found to have no solution, if there are new needs and limits.
+// Whether a relation is found to have no solution before the first split of a world, which settles all cases. At later splits
+// what is learnt has to do: to ask again at each of them costs more than it saves.
 fn refuted(
     entries: &[u64],
     w: Wants,
-    new: Set,
+    bound: usize,
     depth: usize,
     level: usize,
     work: &mut [u64],
@@ -139,10 +139,22 @@ fn refuted(
     requires { ⌜ CountAsked (wideAt (now entries)) (length (now entries)) w depth level (now work) ⌝ }
     ensures { λ r. ⌜ (r ≡ true → SatW (wideAt (now (entries .entry))) w → ⊥) × Remembers (wideAt (now (entries .entry))) depth level (now (work .exit)) ⌝ }
 {
-    if new.is_empty() {
+    if bound < 64 {
         return false;
     }
     !relations(entries, w, depth, level, work)
+}
+
+// Whether some world is as wanted, where nothing is pending: exactly if every relation has a solution. Such a world is learnt.
+fn leaf(entries: &[u64], w: Wants, depth: usize, level: usize, work: &mut [u64]) -> bool
+    requires { ⌜ LeafAsked (wideAt (now entries)) (length (now entries)) w depth level (now work) ⌝ }
+    ensures { λ r. ⌜ Answers r (SatW (wideAt (now (entries .entry))) w) × Remembers (wideAt (now (entries .entry))) depth level (now (work .exit)) ⌝ }
+{
+    if !relations(entries, w, depth, level, work) {
+        return false;
+    }
+    learn_world(entries, w, depth, level, work);
+    true
 }
 
 // Whether every relation has a solution.
@@ -214,7 +226,7 @@ fn solve(
     }
     match by_lists(entries, q, all, depth, level, work) {
         Said::Yes => true,
-        Said::No => false,
+        Said::No(_) => false,
         Said::Nothing => by_asking(entries, q, all, depth, level, work),
     }
 }
@@ -234,7 +246,7 @@ fn by_lists(
     let short = is_short(all, depth);
     match said_by(entries, q, all, short, depth, level, work) {
         Said::Yes => Said::Yes,
-        Said::No => Said::No,
+        Said::No(s) => Said::No(s),
         Said::Nothing => said_by(entries, q, all, !short, depth, level, work),
     }
 }
@@ -253,13 +265,39 @@ fn said_by(
     ensures { λ r. ⌜ SaidIs (problemOf (now (entries .entry)) q) r × Remembers (wideAt (now (entries .entry))) depth level (now (work .exit)) ⌝ }
 {
     if whole {
-        by_list(entries, q, all, depth, level, work)
+        by_core(entries, q, all, depth, level, work)
     } else {
         by_columns(entries, q, all, depth, level, work)
     }
 }
 
-// What the list of the largest sets of promises that can be kept says, if it has room.
+// What the list of the largest sets says. If it says no, those entries that are guessed to be the reason are tried alone, so
+// that more is learnt.
+fn by_core(
+    entries: &[u64],
+    q: Question,
+    all: Set,
+    depth: usize,
+    level: usize,
+    work: &mut [u64],
+) -> Said
+    requires { ⌜ ProblemAsked (problemOf (now entries) q) all depth level (now work) ⌝ }
+    ensures { λ r. ⌜ SaidIs (problemOf (now (entries .entry)) q) r × Remembers (wideAt (now (entries .entry))) depth level (now (work .exit)) ⌝ }
+{
+    match by_list(entries, q, all, depth, level, work) {
+        Said::No(s) => {
+            if !all.minus(s).is_empty() {
+                without(entries, q, s, depth, level, work);
+            }
+            Said::No(s)
+        }
+        Said::Yes => Said::Yes,
+        Said::Nothing => Said::Nothing,
+    }
+}
+
+// What the list of the largest sets of promises that can be kept says, if it has room; if it has not, a solution may be among
+// those that are listed.
 fn by_list(
     entries: &[u64],
     q: Question,
@@ -275,12 +313,16 @@ fn by_list(
     match largest(entries, q, base, all.minus(base), 0, depth, level, work) {
         Listing::Room(k) => {
             if selected(entries, q, all, k, depth, level, work) {
-                Said::Yes
-            } else {
-                Said::No
+                return Said::Yes;
             }
+            Said::No(blamed_behind(entries, q, k, level, work))
         }
-        Listing::Full => Said::Nothing,
+        Listing::Full(k) => {
+            if selected(entries, q, all, k, depth, level, work) {
+                return Said::Yes;
+            }
+            Said::Nothing
+        }
     }
 }
 
@@ -305,13 +347,34 @@ fn by_columns(
             Said::Nothing
         }
         Guess::Without(s) => {
-            let p = narrowed(q, s);
-            match by_list(entries, p, asking(entries, p), depth, level, work) {
-                Said::No => Said::No,
-                _ => Said::Nothing,
+            if without(entries, q, s, depth, level, work) {
+                return Said::No(s);
             }
+            Said::Nothing
         }
         Guess::Nothing => Said::Nothing,
+    }
+}
+
+// Whether the needs and limits in a set are found to have no solution; that is learnt.
+fn without(
+    entries: &[u64],
+    q: Question,
+    s: Set,
+    depth: usize,
+    level: usize,
+    work: &mut [u64],
+) -> bool
+    requires { ⌜ WithoutAsked (problemOf (now entries) q) depth level (now work) ⌝ }
+    ensures { λ r. ⌜ (r ≡ true → Solvable (problemOf (now (entries .entry)) q) → ⊥) × Remembers (wideAt (now (entries .entry))) depth level (now (work .exit)) ⌝ }
+{
+    let p = narrowed(q, s);
+    match by_list(entries, p, asking(entries, p), depth, level, work) {
+        Said::No(_) => {
+            learn_refuted(entries, p, depth, level, work);
+            true
+        }
+        _ => false,
     }
 }
 
@@ -336,13 +399,13 @@ fn columns(
         let prices = prices_behind(entries, q, k, level, work);
         let set = column(entries, q, all, prices, depth, level, work);
         if !pays(prices, set) {
-            return Guess::Without(weighted(prices));
+            return Guess::Without(blamed(entries, q, weighted(prices)));
         }
         match also(entries, set, k, level, work) {
             Listing::Room(more) => {
                 k = more;
             }
-            Listing::Full => return Guess::Nothing,
+            Listing::Full(_) => return Guess::Nothing,
         }
     }
 }
@@ -556,7 +619,7 @@ fn branches(
             level,
             work,
         ),
-        Listing::Full => Listing::Full,
+        Listing::Full(all) => Listing::Full(all),
     }
 }
 
@@ -588,7 +651,7 @@ fn core_of(
 }
 
 // Whether a need and a limit are found that exclude each other: the need asks for more than the limit allows, and no
-// successor keeps both promises.
+// successor keeps both promises beside those of limits that allow none. That is learnt.
 fn opposed(
     entries: &[u64],
     q: Question,
@@ -600,6 +663,7 @@ fn opposed(
     requires { ⌜ ProblemAsked (problemOf (now entries) q) all depth level (now work) ⌝ }
     ensures { λ r. ⌜ Opposed (problemOf (now (entries .entry)) q) depth level (now (work .entry)) (now (work .exit)) r ⌝ }
 {
+    let base = closed(entries, q).intersection(all);
     let mut needs = all;
     let mut limits = all;
     loop {
@@ -610,7 +674,9 @@ fn opposed(
             Highest::At(j) => {
                 limits = limits.without(j);
                 if exceeds(entries, q, i, j) {
-                    if !keeps(entries, q, pair(i, j), depth, level, work) {
+                    let both = pair(i, j).union(base);
+                    if !keeps(entries, q, both, depth, level, work) {
+                        learn_refuted(entries, narrowed(q, both), depth, level, work);
                         return true;
                     }
                 }
@@ -648,7 +714,7 @@ fn keeps(
     found
 }
 
-// The same by looking for one.
+// The same by looking for one: a world one less deep, worked in the rest of the lent words.
 fn can_keep(
     entries: &[u64],
     q: Question,
@@ -661,31 +727,7 @@ fn can_keep(
     ensures { λ r. ⌜ Kept (problemOf (now (entries .entry)) q) promises depth level (now (work .entry)) (now (work .exit)) r ⌝ }
 {
     match promised(entries, q, promises, depth - 1) {
-        Outcome::Settled(v) => next(entries, v, depth, level, work),
+        Outcome::Settled(v) => world(entries, v, 64, depth - 1, level, &mut work[level..]),
         Outcome::Clash => false,
     }
-}
-
-// Whether some world is as wanted, one less deep: it is worked in the rest of the lent words, unless the answer is known.
-fn next(entries: &[u64], w: Wants, depth: usize, level: usize, work: &mut [u64]) -> bool
-    requires { ⌜ NextAsked (wideAt (now entries)) (length (now entries)) w depth level (now work) ⌝ }
-    ensures { λ r. ⌜ Had (wideAt (now (entries .entry))) w depth level (now (work .entry)) (now (work .exit)) r ⌝ }
-{
-    let yes = w.yes;
-    let no = w.no;
-    let from = (depth + 1) * level;
-    if let Remembered::Answer(known) = recall(work, from, yes, no, false) {
-        return known;
-    }
-    let found = world(
-        entries,
-        w,
-        64,
-        Set::empty(),
-        depth - 1,
-        level,
-        &mut work[level..],
-    );
-    remember(work, from, yes, no, false, found);
-    found
 }

@@ -12,9 +12,11 @@ use sets::Set;
 use std::num;
 use wide::wide_at;
 
-// The needs, and the weights of all entries: bit b of an entry's weight is in plane b. Greater weights are halved until they fit.
+// The needs, the entries that weigh something, and the weights of all entries: bit b of an entry's weight is in plane b.
+// Greater weights are halved until they fit.
 pub struct Prices {
     pub needs: Set,
+    pub heavy: Set,
     pub planes: [u64; 8],
 }
 
@@ -23,6 +25,7 @@ pub fn flat() -> Prices {
     let planes = [0u64; 8];
     Prices {
         needs: Set::empty(),
+        heavy: Set::empty(),
         planes,
     }
 }
@@ -80,6 +83,19 @@ fn planes_from(words: &[u64], from: usize, lowest: usize) -> [u64; 8]
     planes
 }
 
+// The entries that weigh something, by the 64 words from a place on.
+pub fn weighing(words: &[u64], from: usize) -> Set {
+    let mut found = Set::empty();
+    let mut i: usize = 0;
+    while i < 64 {
+        if weight(words, from, i) != 0 {
+            found = found.with(i);
+        }
+        i += 1;
+    }
+    found
+}
+
 // The entries that ask as needs.
 fn needs(entries: &[u64], q: Question) -> Set
     requires { ⌜ length (now entries) ≤ 64 ⌝ }
@@ -104,6 +120,7 @@ pub fn prices_from(entries: &[u64], q: Question, words: &[u64], from: usize) -> 
     let planes = planes_from(words, from, lowest);
     Prices {
         needs: needs(entries, q),
+        heavy: weighing(words, from),
         planes,
     }
 }
@@ -137,14 +154,7 @@ pub fn heaviest(p: Prices, rest: Set) -> Set
 
 // The entries that weigh something.
 pub fn weighted(p: Prices) -> Set {
-    let planes = p.planes;
-    let mut found = Set::empty();
-    let mut b: usize = 0;
-    while b < 8 {
-        found = found.union(Set::of_code(planes[b]));
-        b += 1;
-    }
-    found
+    p.heavy
 }
 
 // What the members of a set weigh, one plane after the other from the highest on.

@@ -18,10 +18,10 @@ settled : (c : tie.After-v)
 settled c = rw (c .v .given .1) at (c .before .before .settle .ensures)
 
 world-requires : tie.Need-world-requires
-world-requires c κs = let start = c .before .before .before .before .before .before .before .before in record { ready = settled (c .before .before .before) .ready; small = omega arith; room = start .pre .room; memory = start .pre .memory }
+world-requires c κs = let start = c .before .before .before .before .before .before .before in record { ready = settled (c .before .before) .ready; small = omega arith; room = start .pre .room; memory = start .pre .memory }
 
 returns : tie.Need-returns
-returns c = settling-answer (settled (c .before .before .before .before .before .before)) (c .before .before .world .result) (c .before .before .world .ensures .0)
+returns c = settling-answer (settled (c .before .before .before .before .before)) (c .before .before .world .result) (c .before .before .world .ensures .0)
 
 returns-2 : tie.Need-returns-2
 returns-2 c = rw (c .enum-told .given .1) at (c .before .before .settle .ensures)
@@ -29,4 +29,4 @@ returns-2 c = rw (c .enum-told .given .1) at (c .before .before .settle .ensures
 pub satisfiable-spec : {M : Type 1} → statement M
 satisfiable-spec =
     tie.close
-    (tie.spec settle-requires (λ c. search needs) (λ c κs. search needs) world-requires (λ c. search needs) (λ c. search needs) returns returns-2)
+    (tie.spec settle-requires (λ c. search needs) world-requires (λ c. search needs) (λ c. search needs) returns returns-2)

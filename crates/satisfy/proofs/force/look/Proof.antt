@@ -11,18 +11,18 @@ use Rattle.wants.specs.declared.Outcome.{Outcome}
 use Rattle.satisfy.specs.World.{Waiting}
 use Rattle.satisfy.specs.Force.{Forced}
 use Rattle.satisfy.proofs.Splitting.{inside}
-use Rattle.satisfy.proofs.Forcing.{unseen, forced-none, forced-next, unseen-fewer}
+use Rattle.satisfy.proofs.Forcing.{ruled-more, unseen, forced-none, forced-next, unseen-fewer}
 use Rattle.satisfy.proofs.force.look.Statement.{statement}
 use Rattle.satisfy.proofs.force.look.Tie as tie
 
 abbrev Inv-loop : tie.InvT-loop
-Inv-loop entries bound depth v₀ seen₀ v seen = Forced (wideAt entries) (length entries) v₀ bound depth v
+Inv-loop entries known bound depth v₀ seen₀ v seen = Forced (wideAt entries) (length entries) v₀ bound depth v
 
 abbrev μ-loop : tie.MeasureT-loop
-μ-loop entries bound depth v₀ seen₀ v seen = count (λ i. not (member seen i)) (length entries)
+μ-loop entries known bound depth v₀ seen₀ v seen = count (λ i. not (member seen i)) (length entries)
 
 loop-holds : tie.Need-loop-holds Inv-loop μ-loop
-loop-holds c = forced-none (c .before .before .pre)
+loop-holds c = forced-none (c .before .before .pre .0)
 
 returns : tie.Need-returns Inv-loop μ-loop
 returns c = c .before .before .before .before .before .loop .inv
@@ -38,7 +38,7 @@ waits : (c : tie.After-d Inv-loop μ-loop)
 waits c = record { ready = c .before .before .before .before .before .loop .inv .ready; here = top c .0 }
 
 force-at-requires : tie.Need-force-at-requires Inv-loop μ-loop
-force-at-requires c κs = waits (c .before)
+force-at-requires c κs = (waits (c .before), ruled-more (c .before .before .before .before .before .before .loop .inv) (c .before .before .before .before .before .before .before .before .before .pre .1))
 
 returns-2 : tie.Need-returns-2 Inv-loop μ-loop
 returns-2 c = forced-next (c .before .before .before .before .before .before .before .before .before .loop .inv) Outcome.Clash (rw (c .enum-told2 .given .1) at (c .before .before .force-at .ensures))

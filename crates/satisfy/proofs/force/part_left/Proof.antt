@@ -9,12 +9,12 @@ use Rattle.satisfy.proofs.force.part_left.Tie as tie
 told-requires : tie.Need-told-requires
 told-requires c κs =
     let start = c .before .before .before .before .before in
-    rw (c .before .before .before .wide-at .ensures) (start .pre .ready .formed, part-asked (start .pre) (inl refl) .inside)
+    rw (c .before .before .before .wide-at .ensures) (start .pre .0 .ready .formed, part-asked (start .pre .0) (inl refl) .inside, start .pre .1)
 
 told-requires-2 : tie.Need-told-requires-2
 told-requires-2 c κs =
     let start = c .before .before .before .before .before .before .before .before in
-    rw (c .before .before .before .before .before .before .wide-at .ensures) (start .pre .ready .formed, part-asked (start .pre) (inr refl) .inside)
+    rw (c .before .before .before .before .before .before .wide-at .ensures) (start .pre .0 .ready .formed, part-asked (start .pre .0) (inr refl) .inside, start .pre .1)
 
 returns : tie.Need-returns
 returns c =
@@ -24,7 +24,7 @@ returns c =
 returns-2 : tie.Need-returns-2
 returns-2 c =
     let same = c .before .before .before .before .before .before .wide-at .ensures in
-    rw same (inr refl, second-left (c .before .before .before .before .before .before .before .before .pre) (rw (c .enum-told2 .given .1, same) at (c .before .before .told .ensures)))
+    rw same (inr refl, second-left (c .before .before .before .before .before .before .before .before .pre .0) (rw (c .enum-told2 .given .1, same) at (c .before .before .told .ensures)))
 
 returns-3 : tie.Need-returns-3
 returns-3 c =
@@ -34,7 +34,7 @@ returns-3 c =
 returns-4 : tie.Need-returns-4
 returns-4 c =
     let same = c .before .before .before .before .before .before .before .before .before .wide-at .ensures in
-    rw same (inl refl, first-left (c .before .before .before .before .before .before .before .before .before .before .before .pre) (rw (c .enum-told5 .given .1, same) at (c .before .before .told2 .ensures)))
+    rw same (inl refl, first-left (c .before .before .before .before .before .before .before .before .before .before .before .pre .0) (rw (c .enum-told5 .given .1, same) at (c .before .before .told2 .ensures)))
 
 pub part-left-spec : {M : Type 1} → statement M
 part-left-spec =

@@ -14,13 +14,13 @@ use Rattle.sets.specs.Word.{Greatest}
 use Rattle.wide.specs.Wide.{wideAt}
 use Rattle.counting.specs.Question.{problemOf}
 use Rattle.counting.specs.Search.{At, Asked, Nearer, toDo}
-use Rattle.satisfy.specs.World.{Branch}
+use Rattle.satisfy.specs.World.{SatW, Branch}
 use Rattle.satisfy.specs.Promise.{Promised}
 use Rattle.satisfy.specs.Relation.{counting}
 use Rattle.satisfy.specs.Asking.{Solving, Roomy, Remembers}
 use Rattle.satisfy.proofs.Worlds.{case-answer, solving-none, solving-next, solving-done, solved-world, unsolved, room-below, room-level}
 use Rattle.satisfy.proofs.Promises.{promising-fewer}
-use Rattle.satisfy.proofs.Pairs.{within-removed, chosen-below, pair-asked, pair-opposed}
+use Rattle.satisfy.proofs.Pairs.{within-removed, chosen-below, pair-asked, pair-opposed, pair-alone}
 use Rattle.semantics.proofs.Count.{count-le}
 use Rattle.wants.proofs.Members.{count-removed}
 use Rattle.satisfy.proofs.Calls.{ready-leaf, ready-wider, ready-bounded, world-answer, promised-fit, counting-below, counting-deep, question-small, question-promising, question-positive, count-done, room-kept, length-behind, own-solution, own-no-solution, own-asking, promised-unfit, within-same}
@@ -54,76 +54,82 @@ use borrow.Fn.Kinds.{In}
 use borrow.Fn.PlainCycle.{Measures, is, falls, and}
 use Rattle.satisfy.proofs.world.branches.Reads as branches
 use Rattle.satisfy.proofs.world.branches.Kinds as branches-kinds
-use Rattle.satisfy.proofs.world.+branches+by_asking+by_columns+by_list+by_lists+can_keep+case_holds+column+columns+core_of+greedy+grown+grown_by+keeps+largest+next+opposed+refuted+relation+relations+said_by+solve+split+world.Lts-branches as branches-lts
+use Rattle.satisfy.proofs.world.+branches+by_asking+by_columns+by_core+by_list+by_lists+can_keep+case_holds+column+columns+core_of+greedy+grown+grown_by+keeps+largest+leaf+opposed+refuted+relation+relations+said_by+solve+split+without+world.Lts-branches as branches-lts
 use Rattle.satisfy.proofs.world.by_asking.Reads as by-asking
 use Rattle.satisfy.proofs.world.by_asking.Kinds as by-asking-kinds
-use Rattle.satisfy.proofs.world.+branches+by_asking+by_columns+by_list+by_lists+can_keep+case_holds+column+columns+core_of+greedy+grown+grown_by+keeps+largest+next+opposed+refuted+relation+relations+said_by+solve+split+world.Lts-by_asking as by-asking-lts
+use Rattle.satisfy.proofs.world.+branches+by_asking+by_columns+by_core+by_list+by_lists+can_keep+case_holds+column+columns+core_of+greedy+grown+grown_by+keeps+largest+leaf+opposed+refuted+relation+relations+said_by+solve+split+without+world.Lts-by_asking as by-asking-lts
 use Rattle.satisfy.proofs.world.by_columns.Reads as by-columns
 use Rattle.satisfy.proofs.world.by_columns.Kinds as by-columns-kinds
-use Rattle.satisfy.proofs.world.+branches+by_asking+by_columns+by_list+by_lists+can_keep+case_holds+column+columns+core_of+greedy+grown+grown_by+keeps+largest+next+opposed+refuted+relation+relations+said_by+solve+split+world.Lts-by_columns as by-columns-lts
+use Rattle.satisfy.proofs.world.+branches+by_asking+by_columns+by_core+by_list+by_lists+can_keep+case_holds+column+columns+core_of+greedy+grown+grown_by+keeps+largest+leaf+opposed+refuted+relation+relations+said_by+solve+split+without+world.Lts-by_columns as by-columns-lts
+use Rattle.satisfy.proofs.world.by_core.Reads as by-core
+use Rattle.satisfy.proofs.world.by_core.Kinds as by-core-kinds
+use Rattle.satisfy.proofs.world.+branches+by_asking+by_columns+by_core+by_list+by_lists+can_keep+case_holds+column+columns+core_of+greedy+grown+grown_by+keeps+largest+leaf+opposed+refuted+relation+relations+said_by+solve+split+without+world.Lts-by_core as by-core-lts
 use Rattle.satisfy.proofs.world.by_list.Reads as by-list
 use Rattle.satisfy.proofs.world.by_list.Kinds as by-list-kinds
-use Rattle.satisfy.proofs.world.+branches+by_asking+by_columns+by_list+by_lists+can_keep+case_holds+column+columns+core_of+greedy+grown+grown_by+keeps+largest+next+opposed+refuted+relation+relations+said_by+solve+split+world.Lts-by_list as by-list-lts
+use Rattle.satisfy.proofs.world.+branches+by_asking+by_columns+by_core+by_list+by_lists+can_keep+case_holds+column+columns+core_of+greedy+grown+grown_by+keeps+largest+leaf+opposed+refuted+relation+relations+said_by+solve+split+without+world.Lts-by_list as by-list-lts
 use Rattle.satisfy.proofs.world.by_lists.Reads as by-lists
 use Rattle.satisfy.proofs.world.by_lists.Kinds as by-lists-kinds
-use Rattle.satisfy.proofs.world.+branches+by_asking+by_columns+by_list+by_lists+can_keep+case_holds+column+columns+core_of+greedy+grown+grown_by+keeps+largest+next+opposed+refuted+relation+relations+said_by+solve+split+world.Lts-by_lists as by-lists-lts
+use Rattle.satisfy.proofs.world.+branches+by_asking+by_columns+by_core+by_list+by_lists+can_keep+case_holds+column+columns+core_of+greedy+grown+grown_by+keeps+largest+leaf+opposed+refuted+relation+relations+said_by+solve+split+without+world.Lts-by_lists as by-lists-lts
 use Rattle.satisfy.proofs.world.can_keep.Reads as can-keep
 use Rattle.satisfy.proofs.world.can_keep.Kinds as can-keep-kinds
-use Rattle.satisfy.proofs.world.+branches+by_asking+by_columns+by_list+by_lists+can_keep+case_holds+column+columns+core_of+greedy+grown+grown_by+keeps+largest+next+opposed+refuted+relation+relations+said_by+solve+split+world.Lts-can_keep as can-keep-lts
+use Rattle.satisfy.proofs.world.+branches+by_asking+by_columns+by_core+by_list+by_lists+can_keep+case_holds+column+columns+core_of+greedy+grown+grown_by+keeps+largest+leaf+opposed+refuted+relation+relations+said_by+solve+split+without+world.Lts-can_keep as can-keep-lts
 use Rattle.satisfy.proofs.world.case_holds.Reads as case-holds
 use Rattle.satisfy.proofs.world.case_holds.Kinds as case-holds-kinds
-use Rattle.satisfy.proofs.world.+branches+by_asking+by_columns+by_list+by_lists+can_keep+case_holds+column+columns+core_of+greedy+grown+grown_by+keeps+largest+next+opposed+refuted+relation+relations+said_by+solve+split+world.Lts-case_holds as case-holds-lts
+use Rattle.satisfy.proofs.world.+branches+by_asking+by_columns+by_core+by_list+by_lists+can_keep+case_holds+column+columns+core_of+greedy+grown+grown_by+keeps+largest+leaf+opposed+refuted+relation+relations+said_by+solve+split+without+world.Lts-case_holds as case-holds-lts
 use Rattle.satisfy.proofs.world.column.Reads as column
 use Rattle.satisfy.proofs.world.column.Kinds as column-kinds
-use Rattle.satisfy.proofs.world.+branches+by_asking+by_columns+by_list+by_lists+can_keep+case_holds+column+columns+core_of+greedy+grown+grown_by+keeps+largest+next+opposed+refuted+relation+relations+said_by+solve+split+world.Lts-column as column-lts
+use Rattle.satisfy.proofs.world.+branches+by_asking+by_columns+by_core+by_list+by_lists+can_keep+case_holds+column+columns+core_of+greedy+grown+grown_by+keeps+largest+leaf+opposed+refuted+relation+relations+said_by+solve+split+without+world.Lts-column as column-lts
 use Rattle.satisfy.proofs.world.columns.Reads as columns
 use Rattle.satisfy.proofs.world.columns.Kinds as columns-kinds
-use Rattle.satisfy.proofs.world.+branches+by_asking+by_columns+by_list+by_lists+can_keep+case_holds+column+columns+core_of+greedy+grown+grown_by+keeps+largest+next+opposed+refuted+relation+relations+said_by+solve+split+world.Lts-columns as columns-lts
+use Rattle.satisfy.proofs.world.+branches+by_asking+by_columns+by_core+by_list+by_lists+can_keep+case_holds+column+columns+core_of+greedy+grown+grown_by+keeps+largest+leaf+opposed+refuted+relation+relations+said_by+solve+split+without+world.Lts-columns as columns-lts
 use Rattle.satisfy.proofs.world.core_of.Reads as core-of
 use Rattle.satisfy.proofs.world.core_of.Kinds as core-of-kinds
-use Rattle.satisfy.proofs.world.+branches+by_asking+by_columns+by_list+by_lists+can_keep+case_holds+column+columns+core_of+greedy+grown+grown_by+keeps+largest+next+opposed+refuted+relation+relations+said_by+solve+split+world.Lts-core_of as core-of-lts
+use Rattle.satisfy.proofs.world.+branches+by_asking+by_columns+by_core+by_list+by_lists+can_keep+case_holds+column+columns+core_of+greedy+grown+grown_by+keeps+largest+leaf+opposed+refuted+relation+relations+said_by+solve+split+without+world.Lts-core_of as core-of-lts
 use Rattle.satisfy.proofs.world.greedy.Reads as greedy
 use Rattle.satisfy.proofs.world.greedy.Kinds as greedy-kinds
-use Rattle.satisfy.proofs.world.+branches+by_asking+by_columns+by_list+by_lists+can_keep+case_holds+column+columns+core_of+greedy+grown+grown_by+keeps+largest+next+opposed+refuted+relation+relations+said_by+solve+split+world.Lts-greedy as greedy-lts
+use Rattle.satisfy.proofs.world.+branches+by_asking+by_columns+by_core+by_list+by_lists+can_keep+case_holds+column+columns+core_of+greedy+grown+grown_by+keeps+largest+leaf+opposed+refuted+relation+relations+said_by+solve+split+without+world.Lts-greedy as greedy-lts
 use Rattle.satisfy.proofs.world.grown.Reads as grown
 use Rattle.satisfy.proofs.world.grown.Kinds as grown-kinds
-use Rattle.satisfy.proofs.world.+branches+by_asking+by_columns+by_list+by_lists+can_keep+case_holds+column+columns+core_of+greedy+grown+grown_by+keeps+largest+next+opposed+refuted+relation+relations+said_by+solve+split+world.Lts-grown as grown-lts
+use Rattle.satisfy.proofs.world.+branches+by_asking+by_columns+by_core+by_list+by_lists+can_keep+case_holds+column+columns+core_of+greedy+grown+grown_by+keeps+largest+leaf+opposed+refuted+relation+relations+said_by+solve+split+without+world.Lts-grown as grown-lts
 use Rattle.satisfy.proofs.world.grown_by.Reads as grown-by
 use Rattle.satisfy.proofs.world.grown_by.Kinds as grown-by-kinds
-use Rattle.satisfy.proofs.world.+branches+by_asking+by_columns+by_list+by_lists+can_keep+case_holds+column+columns+core_of+greedy+grown+grown_by+keeps+largest+next+opposed+refuted+relation+relations+said_by+solve+split+world.Lts-grown_by as grown-by-lts
+use Rattle.satisfy.proofs.world.+branches+by_asking+by_columns+by_core+by_list+by_lists+can_keep+case_holds+column+columns+core_of+greedy+grown+grown_by+keeps+largest+leaf+opposed+refuted+relation+relations+said_by+solve+split+without+world.Lts-grown_by as grown-by-lts
 use Rattle.satisfy.proofs.world.keeps.Reads as keeps
 use Rattle.satisfy.proofs.world.keeps.Kinds as keeps-kinds
-use Rattle.satisfy.proofs.world.+branches+by_asking+by_columns+by_list+by_lists+can_keep+case_holds+column+columns+core_of+greedy+grown+grown_by+keeps+largest+next+opposed+refuted+relation+relations+said_by+solve+split+world.Lts-keeps as keeps-lts
+use Rattle.satisfy.proofs.world.+branches+by_asking+by_columns+by_core+by_list+by_lists+can_keep+case_holds+column+columns+core_of+greedy+grown+grown_by+keeps+largest+leaf+opposed+refuted+relation+relations+said_by+solve+split+without+world.Lts-keeps as keeps-lts
 use Rattle.satisfy.proofs.world.largest.Reads as largest
 use Rattle.satisfy.proofs.world.largest.Kinds as largest-kinds
-use Rattle.satisfy.proofs.world.+branches+by_asking+by_columns+by_list+by_lists+can_keep+case_holds+column+columns+core_of+greedy+grown+grown_by+keeps+largest+next+opposed+refuted+relation+relations+said_by+solve+split+world.Lts-largest as largest-lts
-use Rattle.satisfy.proofs.world.next.Reads as next
-use Rattle.satisfy.proofs.world.next.Kinds as next-kinds
-use Rattle.satisfy.proofs.world.+branches+by_asking+by_columns+by_list+by_lists+can_keep+case_holds+column+columns+core_of+greedy+grown+grown_by+keeps+largest+next+opposed+refuted+relation+relations+said_by+solve+split+world.Lts-next as next-lts
+use Rattle.satisfy.proofs.world.+branches+by_asking+by_columns+by_core+by_list+by_lists+can_keep+case_holds+column+columns+core_of+greedy+grown+grown_by+keeps+largest+leaf+opposed+refuted+relation+relations+said_by+solve+split+without+world.Lts-largest as largest-lts
+use Rattle.satisfy.proofs.world.leaf.Reads as leaf
+use Rattle.satisfy.proofs.world.leaf.Kinds as leaf-kinds
+use Rattle.satisfy.proofs.world.+branches+by_asking+by_columns+by_core+by_list+by_lists+can_keep+case_holds+column+columns+core_of+greedy+grown+grown_by+keeps+largest+leaf+opposed+refuted+relation+relations+said_by+solve+split+without+world.Lts-leaf as leaf-lts
 use Rattle.satisfy.proofs.world.opposed.Reads as opposed
 use Rattle.satisfy.proofs.world.opposed.Kinds as opposed-kinds
-use Rattle.satisfy.proofs.world.+branches+by_asking+by_columns+by_list+by_lists+can_keep+case_holds+column+columns+core_of+greedy+grown+grown_by+keeps+largest+next+opposed+refuted+relation+relations+said_by+solve+split+world.Lts-opposed as opposed-lts
+use Rattle.satisfy.proofs.world.+branches+by_asking+by_columns+by_core+by_list+by_lists+can_keep+case_holds+column+columns+core_of+greedy+grown+grown_by+keeps+largest+leaf+opposed+refuted+relation+relations+said_by+solve+split+without+world.Lts-opposed as opposed-lts
 use Rattle.satisfy.proofs.world.refuted.Reads as refuted
 use Rattle.satisfy.proofs.world.refuted.Kinds as refuted-kinds
-use Rattle.satisfy.proofs.world.+branches+by_asking+by_columns+by_list+by_lists+can_keep+case_holds+column+columns+core_of+greedy+grown+grown_by+keeps+largest+next+opposed+refuted+relation+relations+said_by+solve+split+world.Lts-refuted as refuted-lts
+use Rattle.satisfy.proofs.world.+branches+by_asking+by_columns+by_core+by_list+by_lists+can_keep+case_holds+column+columns+core_of+greedy+grown+grown_by+keeps+largest+leaf+opposed+refuted+relation+relations+said_by+solve+split+without+world.Lts-refuted as refuted-lts
 use Rattle.satisfy.proofs.world.relation.Reads as relation
 use Rattle.satisfy.proofs.world.relation.Kinds as relation-kinds
-use Rattle.satisfy.proofs.world.+branches+by_asking+by_columns+by_list+by_lists+can_keep+case_holds+column+columns+core_of+greedy+grown+grown_by+keeps+largest+next+opposed+refuted+relation+relations+said_by+solve+split+world.Lts-relation as relation-lts
+use Rattle.satisfy.proofs.world.+branches+by_asking+by_columns+by_core+by_list+by_lists+can_keep+case_holds+column+columns+core_of+greedy+grown+grown_by+keeps+largest+leaf+opposed+refuted+relation+relations+said_by+solve+split+without+world.Lts-relation as relation-lts
 use Rattle.satisfy.proofs.world.relations.Reads as relations
 use Rattle.satisfy.proofs.world.relations.Kinds as relations-kinds
-use Rattle.satisfy.proofs.world.+branches+by_asking+by_columns+by_list+by_lists+can_keep+case_holds+column+columns+core_of+greedy+grown+grown_by+keeps+largest+next+opposed+refuted+relation+relations+said_by+solve+split+world.Lts-relations as relations-lts
+use Rattle.satisfy.proofs.world.+branches+by_asking+by_columns+by_core+by_list+by_lists+can_keep+case_holds+column+columns+core_of+greedy+grown+grown_by+keeps+largest+leaf+opposed+refuted+relation+relations+said_by+solve+split+without+world.Lts-relations as relations-lts
 use Rattle.satisfy.proofs.world.said_by.Reads as said-by
 use Rattle.satisfy.proofs.world.said_by.Kinds as said-by-kinds
-use Rattle.satisfy.proofs.world.+branches+by_asking+by_columns+by_list+by_lists+can_keep+case_holds+column+columns+core_of+greedy+grown+grown_by+keeps+largest+next+opposed+refuted+relation+relations+said_by+solve+split+world.Lts-said_by as said-by-lts
+use Rattle.satisfy.proofs.world.+branches+by_asking+by_columns+by_core+by_list+by_lists+can_keep+case_holds+column+columns+core_of+greedy+grown+grown_by+keeps+largest+leaf+opposed+refuted+relation+relations+said_by+solve+split+without+world.Lts-said_by as said-by-lts
 use Rattle.satisfy.proofs.world.solve.Reads as solve
 use Rattle.satisfy.proofs.world.solve.Kinds as solve-kinds
-use Rattle.satisfy.proofs.world.+branches+by_asking+by_columns+by_list+by_lists+can_keep+case_holds+column+columns+core_of+greedy+grown+grown_by+keeps+largest+next+opposed+refuted+relation+relations+said_by+solve+split+world.Lts-solve as solve-lts
+use Rattle.satisfy.proofs.world.+branches+by_asking+by_columns+by_core+by_list+by_lists+can_keep+case_holds+column+columns+core_of+greedy+grown+grown_by+keeps+largest+leaf+opposed+refuted+relation+relations+said_by+solve+split+without+world.Lts-solve as solve-lts
 use Rattle.satisfy.proofs.world.split.Reads as split
 use Rattle.satisfy.proofs.world.split.Kinds as split-kinds
-use Rattle.satisfy.proofs.world.+branches+by_asking+by_columns+by_list+by_lists+can_keep+case_holds+column+columns+core_of+greedy+grown+grown_by+keeps+largest+next+opposed+refuted+relation+relations+said_by+solve+split+world.Lts-split as split-lts
+use Rattle.satisfy.proofs.world.+branches+by_asking+by_columns+by_core+by_list+by_lists+can_keep+case_holds+column+columns+core_of+greedy+grown+grown_by+keeps+largest+leaf+opposed+refuted+relation+relations+said_by+solve+split+without+world.Lts-split as split-lts
+use Rattle.satisfy.proofs.world.without.Reads as without
+use Rattle.satisfy.proofs.world.without.Kinds as without-kinds
+use Rattle.satisfy.proofs.world.+branches+by_asking+by_columns+by_core+by_list+by_lists+can_keep+case_holds+column+columns+core_of+greedy+grown+grown_by+keeps+largest+leaf+opposed+refuted+relation+relations+said_by+solve+split+without+world.Lts-without as without-lts
 use Rattle.satisfy.proofs.world.world.Reads as world
 use Rattle.satisfy.proofs.world.world.Kinds as world-kinds
-use Rattle.satisfy.proofs.world.+branches+by_asking+by_columns+by_list+by_lists+can_keep+case_holds+column+columns+core_of+greedy+grown+grown_by+keeps+largest+next+opposed+refuted+relation+relations+said_by+solve+split+world.Lts-world as world-lts
+use Rattle.satisfy.proofs.world.+branches+by_asking+by_columns+by_core+by_list+by_lists+can_keep+case_holds+column+columns+core_of+greedy+grown+grown_by+keeps+largest+leaf+opposed+refuted+relation+relations+said_by+solve+split+without+world.Lts-world as world-lts
 use Rattle.counting.proofs.bounds.met.Reads as met-reads
 use Rattle.counting.proofs.bounds.unmet.Reads as unmet-reads
 use Rattle.counting.proofs.bounds.used_up.Reads as used-up-reads
@@ -141,14 +147,18 @@ use Rattle.memory.proofs.recall.Reads as recall-reads
 use Rattle.memory.proofs.remember.Reads as remember-reads
 use Rattle.satisfy.proofs.branch.branch.Reads as branch-reads
 use Rattle.satisfy.proofs.force.force.Reads as force-reads
+use Rattle.satisfy.proofs.learning.learn_refuted.Reads as learn-refuted-reads
+use Rattle.satisfy.proofs.learning.learn_world.Reads as learn-world-reads
 use Rattle.satisfy.proofs.listing.also.Reads as also-reads
+use Rattle.satisfy.proofs.listing.blamed.Reads as blamed-reads
+use Rattle.satisfy.proofs.listing.blamed_behind.Reads as blamed-behind-reads
 use Rattle.satisfy.proofs.listing.highest_of.Reads as highest-of-reads
+use Rattle.satisfy.proofs.listing.is_short.Reads as is-short-reads
 use Rattle.satisfy.proofs.listing.known.Reads as known-reads
 use Rattle.satisfy.proofs.listing.narrowed.Reads as narrowed-reads
+use Rattle.satisfy.proofs.listing.prices_behind.Reads as prices-behind-reads
 use Rattle.satisfy.proofs.listing.selected.Reads as selected-reads
 use Rattle.satisfy.proofs.listing.weighs.Reads as weighs-reads
-use Rattle.satisfy.proofs.listing.prices_behind.Reads as prices-behind-reads
-use Rattle.satisfy.proofs.listing.is_short.Reads as is-short-reads
 use Rattle.satisfy.proofs.promise.pair.Reads as pair-reads
 use Rattle.satisfy.proofs.promise.parts_of.Reads as parts-of-reads
 use Rattle.satisfy.proofs.promise.promised.Reads as promised-reads
@@ -166,8 +176,8 @@ use Rattle.sets.proofs.Set.minus.Reads as minus-reads
 use Rattle.sets.proofs.Set.union.Reads as union-reads
 use Rattle.sets.proofs.Set.with.Reads as with-reads
 use Rattle.sets.proofs.Set.without.Reads as without-reads
-use Rattle.satisfy.proofs.world.+branches+by_asking+by_columns+by_list+by_lists+can_keep+case_holds+column+columns+core_of+greedy+grown+grown_by+keeps+largest+next+opposed+refuted+relation+relations+said_by+solve+split+world.{statement}
-use Rattle.satisfy.proofs.world.+branches+by_asking+by_columns+by_list+by_lists+can_keep+case_holds+column+columns+core_of+greedy+grown+grown_by+keeps+largest+next+opposed+refuted+relation+relations+said_by+solve+split+world.Tie.{close}
+use Rattle.satisfy.proofs.world.+branches+by_asking+by_columns+by_core+by_list+by_lists+can_keep+case_holds+column+columns+core_of+greedy+grown+grown_by+keeps+largest+leaf+opposed+refuted+relation+relations+said_by+solve+split+without+world.{statement}
+use Rattle.satisfy.proofs.world.+branches+by_asking+by_columns+by_core+by_list+by_lists+can_keep+case_holds+column+columns+core_of+greedy+grown+grown_by+keeps+largest+leaf+opposed+refuted+relation+relations+said_by+solve+split+without+world.Tie.{close}
 
 -- The measure falls with the depth; within a world, with the bound on what is pending; and in a list, with the promises that are free.
 abbrev μ-branches : Measures 2 branches-kinds.ps ℕ
@@ -176,17 +186,29 @@ abbrev μ-branches : Measures 2 branches-kinds.ps ℕ
 abbrev μ-by-asking : Measures 2 by-asking-kinds.ps ℕ
 μ-by-asking κs a = a .1 .1 .1 .0 * 512 + 4
 
+abbrev μ-by-columns : Measures 2 by-columns-kinds.ps ℕ
+μ-by-columns κs a = a .1 .1 .1 .0 * 512 + 143
+
+abbrev μ-by-core : Measures 2 by-core-kinds.ps ℕ
+μ-by-core κs a = a .1 .1 .1 .0 * 512 + 143
+
 abbrev μ-by-list : Measures 2 by-list-kinds.ps ℕ
 μ-by-list κs a = a .1 .1 .1 .0 * 512 + 141
 
-abbrev μ-by-columns : Measures 2 by-columns-kinds.ps ℕ
-μ-by-columns κs a = a .1 .1 .1 .0 * 512 + 142
-
 abbrev μ-by-lists : Measures 2 by-lists-kinds.ps ℕ
-μ-by-lists κs a = a .1 .1 .1 .0 * 512 + 144
+μ-by-lists κs a = a .1 .1 .1 .0 * 512 + 145
+
+abbrev μ-can-keep : Measures 2 can-keep-kinds.ps ℕ
+μ-can-keep κs a = a .1 .1 .1 .0 * 512 + 2
 
 abbrev μ-case-holds : Measures 2 case-holds-kinds.ps ℕ
-μ-case-holds κs a = a .1 .1 .1 .1 .1 .0 * 512 + (a .1 .1 .0 + a .1 .1 .0 + a .1 .1 .0) + 151
+μ-case-holds κs a = a .1 .1 .1 .1 .0 * 512 + (a .1 .1 .0 + a .1 .1 .0 + a .1 .1 .0) + 152
+
+abbrev μ-column : Measures 2 column-kinds.ps ℕ
+μ-column κs a = a .1 .1 .1 .1 .0 * 512 + 6
+
+abbrev μ-columns : Measures 2 columns-kinds.ps ℕ
+μ-columns κs a = a .1 .1 .1 .0 * 512 + 7
 
 abbrev μ-core-of : Measures 2 core-of-kinds.ps ℕ
 μ-core-of κs a = a .1 .1 .1 .1 .0 * 512 + 4
@@ -200,61 +222,65 @@ abbrev μ-grown : Measures 2 grown-kinds.ps ℕ
 abbrev μ-grown-by : Measures 2 grown-by-kinds.ps ℕ
 μ-grown-by κs a = a .1 .1 .1 .1 .1 .0 * 512 + 4
 
-abbrev μ-column : Measures 2 column-kinds.ps ℕ
-μ-column κs a = a .1 .1 .1 .1 .0 * 512 + 6
-
-abbrev μ-columns : Measures 2 columns-kinds.ps ℕ
-μ-columns κs a = a .1 .1 .1 .0 * 512 + 7
-
 abbrev μ-keeps : Measures 2 keeps-kinds.ps ℕ
 μ-keeps κs a = a .1 .1 .1 .0 * 512 + 3
-
-abbrev μ-can-keep : Measures 2 can-keep-kinds.ps ℕ
-μ-can-keep κs a = a .1 .1 .1 .0 * 512 + 2
 
 abbrev μ-largest : Measures 2 largest-kinds.ps ℕ
 μ-largest κs a = a .1 .1 .1 .1 .1 .0 * 512 + (count (member (a .1 .1 .1 .0)) 64 + count (member (a .1 .1 .1 .0)) 64) + 5
 
-abbrev μ-next : Measures 2 next-kinds.ps ℕ
-μ-next κs a = a .1 .1 .0 * 512 + 1
+abbrev μ-leaf : Measures 2 leaf-kinds.ps ℕ
+μ-leaf κs a = a .1 .1 .0 * 512 + 149
 
 abbrev μ-opposed : Measures 2 opposed-kinds.ps ℕ
 μ-opposed κs a = a .1 .1 .1 .0 * 512 + 4
 
 abbrev μ-refuted : Measures 2 refuted-kinds.ps ℕ
-μ-refuted κs a = a .1 .1 .1 .0 * 512 + 148
-
-abbrev μ-relations : Measures 2 relations-kinds.ps ℕ
-μ-relations κs a = a .1 .1 .0 * 512 + 147
+μ-refuted κs a = a .1 .1 .1 .0 * 512 + 149
 
 abbrev μ-relation : Measures 2 relation-kinds.ps ℕ
-μ-relation κs a = a .1 .1 .1 .0 * 512 + 146
+μ-relation κs a = a .1 .1 .1 .0 * 512 + 147
+
+abbrev μ-relations : Measures 2 relations-kinds.ps ℕ
+μ-relations κs a = a .1 .1 .0 * 512 + 148
 
 abbrev μ-said-by : Measures 2 said-by-kinds.ps ℕ
-μ-said-by κs a = a .1 .1 .1 .1 .0 * 512 + 143
+μ-said-by κs a = a .1 .1 .1 .1 .0 * 512 + 144
 
 abbrev μ-solve : Measures 2 solve-kinds.ps ℕ
-μ-solve κs a = a .1 .1 .1 .0 * 512 + 145
+μ-solve κs a = a .1 .1 .1 .0 * 512 + 146
 
 abbrev μ-split : Measures 2 split-kinds.ps ℕ
-μ-split κs a = a .1 .1 .1 .1 .0 * 512 + (a .1 .1 .0 + a .1 .1 .0 + a .1 .1 .0) + 149
+μ-split κs a = a .1 .1 .1 .0 * 512 + (a .1 .1 .0 + a .1 .1 .0 + a .1 .1 .0) + 150
+
+abbrev μ-without : Measures 2 without-kinds.ps ℕ
+μ-without κs a = a .1 .1 .1 .0 * 512 + 142
 
 abbrev μ-world : Measures 2 world-kinds.ps ℕ
-μ-world κs a = a .1 .1 .1 .1 .0 * 512 + (a .1 .1 .0 + a .1 .1 .0 + a .1 .1 .0) + 150
+μ-world κs a = a .1 .1 .1 .0 * 512 + (a .1 .1 .0 + a .1 .1 .0 + a .1 .1 .0) + 151
 
 abbrev branches-at : ℕ → In 2 branches-kinds.ps
 branches-at t = and 2 branches-kinds.ps (is 2 branches-kinds.ps μ-branches t) branches.Pre
 
 abbrev branches-below : ℕ → In 2 branches-kinds.ps
-branches-below t =
-    and 2 branches-kinds.ps (falls 2 branches-kinds.ps _<_ μ-branches t) branches.Pre
+branches-below t = and 2 branches-kinds.ps (falls 2 branches-kinds.ps _<_ μ-branches t) branches.Pre
 
 abbrev by-asking-at : ℕ → In 2 by-asking-kinds.ps
 by-asking-at t = and 2 by-asking-kinds.ps (is 2 by-asking-kinds.ps μ-by-asking t) by-asking.Pre
 
 abbrev by-asking-below : ℕ → In 2 by-asking-kinds.ps
-by-asking-below t =
-    and 2 by-asking-kinds.ps (falls 2 by-asking-kinds.ps _<_ μ-by-asking t) by-asking.Pre
+by-asking-below t = and 2 by-asking-kinds.ps (falls 2 by-asking-kinds.ps _<_ μ-by-asking t) by-asking.Pre
+
+abbrev by-columns-at : ℕ → In 2 by-columns-kinds.ps
+by-columns-at t = and 2 by-columns-kinds.ps (is 2 by-columns-kinds.ps μ-by-columns t) by-columns.Pre
+
+abbrev by-columns-below : ℕ → In 2 by-columns-kinds.ps
+by-columns-below t = and 2 by-columns-kinds.ps (falls 2 by-columns-kinds.ps _<_ μ-by-columns t) by-columns.Pre
+
+abbrev by-core-at : ℕ → In 2 by-core-kinds.ps
+by-core-at t = and 2 by-core-kinds.ps (is 2 by-core-kinds.ps μ-by-core t) by-core.Pre
+
+abbrev by-core-below : ℕ → In 2 by-core-kinds.ps
+by-core-below t = and 2 by-core-kinds.ps (falls 2 by-core-kinds.ps _<_ μ-by-core t) by-core.Pre
 
 abbrev by-list-at : ℕ → In 2 by-list-kinds.ps
 by-list-at t = and 2 by-list-kinds.ps (is 2 by-list-kinds.ps μ-by-list t) by-list.Pre
@@ -262,13 +288,35 @@ by-list-at t = and 2 by-list-kinds.ps (is 2 by-list-kinds.ps μ-by-list t) by-li
 abbrev by-list-below : ℕ → In 2 by-list-kinds.ps
 by-list-below t = and 2 by-list-kinds.ps (falls 2 by-list-kinds.ps _<_ μ-by-list t) by-list.Pre
 
+abbrev by-lists-at : ℕ → In 2 by-lists-kinds.ps
+by-lists-at t = and 2 by-lists-kinds.ps (is 2 by-lists-kinds.ps μ-by-lists t) by-lists.Pre
+
+abbrev by-lists-below : ℕ → In 2 by-lists-kinds.ps
+by-lists-below t = and 2 by-lists-kinds.ps (falls 2 by-lists-kinds.ps _<_ μ-by-lists t) by-lists.Pre
+
+abbrev can-keep-at : ℕ → In 2 can-keep-kinds.ps
+can-keep-at t = and 2 can-keep-kinds.ps (is 2 can-keep-kinds.ps μ-can-keep t) can-keep.Pre
+
+abbrev can-keep-below : ℕ → In 2 can-keep-kinds.ps
+can-keep-below t = and 2 can-keep-kinds.ps (falls 2 can-keep-kinds.ps _<_ μ-can-keep t) can-keep.Pre
+
 abbrev case-holds-at : ℕ → In 2 case-holds-kinds.ps
-case-holds-at t =
-    and 2 case-holds-kinds.ps (is 2 case-holds-kinds.ps μ-case-holds t) case-holds.Pre
+case-holds-at t = and 2 case-holds-kinds.ps (is 2 case-holds-kinds.ps μ-case-holds t) case-holds.Pre
 
 abbrev case-holds-below : ℕ → In 2 case-holds-kinds.ps
-case-holds-below t =
-    and 2 case-holds-kinds.ps (falls 2 case-holds-kinds.ps _<_ μ-case-holds t) case-holds.Pre
+case-holds-below t = and 2 case-holds-kinds.ps (falls 2 case-holds-kinds.ps _<_ μ-case-holds t) case-holds.Pre
+
+abbrev column-at : ℕ → In 2 column-kinds.ps
+column-at t = and 2 column-kinds.ps (is 2 column-kinds.ps μ-column t) column.Pre
+
+abbrev column-below : ℕ → In 2 column-kinds.ps
+column-below t = and 2 column-kinds.ps (falls 2 column-kinds.ps _<_ μ-column t) column.Pre
+
+abbrev columns-at : ℕ → In 2 columns-kinds.ps
+columns-at t = and 2 columns-kinds.ps (is 2 columns-kinds.ps μ-columns t) columns.Pre
+
+abbrev columns-below : ℕ → In 2 columns-kinds.ps
+columns-below t = and 2 columns-kinds.ps (falls 2 columns-kinds.ps _<_ μ-columns t) columns.Pre
 
 abbrev core-of-at : ℕ → In 2 core-of-kinds.ps
 core-of-at t = and 2 core-of-kinds.ps (is 2 core-of-kinds.ps μ-core-of t) core-of.Pre
@@ -288,6 +336,12 @@ grown-at t = and 2 grown-kinds.ps (is 2 grown-kinds.ps μ-grown t) grown.Pre
 abbrev grown-below : ℕ → In 2 grown-kinds.ps
 grown-below t = and 2 grown-kinds.ps (falls 2 grown-kinds.ps _<_ μ-grown t) grown.Pre
 
+abbrev grown-by-at : ℕ → In 2 grown-by-kinds.ps
+grown-by-at t = and 2 grown-by-kinds.ps (is 2 grown-by-kinds.ps μ-grown-by t) grown-by.Pre
+
+abbrev grown-by-below : ℕ → In 2 grown-by-kinds.ps
+grown-by-below t = and 2 grown-by-kinds.ps (falls 2 grown-by-kinds.ps _<_ μ-grown-by t) grown-by.Pre
+
 abbrev keeps-at : ℕ → In 2 keeps-kinds.ps
 keeps-at t = and 2 keeps-kinds.ps (is 2 keeps-kinds.ps μ-keeps t) keeps.Pre
 
@@ -300,11 +354,11 @@ largest-at t = and 2 largest-kinds.ps (is 2 largest-kinds.ps μ-largest t) large
 abbrev largest-below : ℕ → In 2 largest-kinds.ps
 largest-below t = and 2 largest-kinds.ps (falls 2 largest-kinds.ps _<_ μ-largest t) largest.Pre
 
-abbrev next-at : ℕ → In 2 next-kinds.ps
-next-at t = and 2 next-kinds.ps (is 2 next-kinds.ps μ-next t) next.Pre
+abbrev leaf-at : ℕ → In 2 leaf-kinds.ps
+leaf-at t = and 2 leaf-kinds.ps (is 2 leaf-kinds.ps μ-leaf t) leaf.Pre
 
-abbrev next-below : ℕ → In 2 next-kinds.ps
-next-below t = and 2 next-kinds.ps (falls 2 next-kinds.ps _<_ μ-next t) next.Pre
+abbrev leaf-below : ℕ → In 2 leaf-kinds.ps
+leaf-below t = and 2 leaf-kinds.ps (falls 2 leaf-kinds.ps _<_ μ-leaf t) leaf.Pre
 
 abbrev opposed-at : ℕ → In 2 opposed-kinds.ps
 opposed-at t = and 2 opposed-kinds.ps (is 2 opposed-kinds.ps μ-opposed t) opposed.Pre
@@ -312,35 +366,11 @@ opposed-at t = and 2 opposed-kinds.ps (is 2 opposed-kinds.ps μ-opposed t) oppos
 abbrev opposed-below : ℕ → In 2 opposed-kinds.ps
 opposed-below t = and 2 opposed-kinds.ps (falls 2 opposed-kinds.ps _<_ μ-opposed t) opposed.Pre
 
-abbrev by-columns-at : ℕ → In 2 by-columns-kinds.ps
-by-columns-at t = and 2 by-columns-kinds.ps (is 2 by-columns-kinds.ps μ-by-columns t) by-columns.Pre
+abbrev refuted-at : ℕ → In 2 refuted-kinds.ps
+refuted-at t = and 2 refuted-kinds.ps (is 2 refuted-kinds.ps μ-refuted t) refuted.Pre
 
-abbrev by-columns-below : ℕ → In 2 by-columns-kinds.ps
-by-columns-below t = and 2 by-columns-kinds.ps (falls 2 by-columns-kinds.ps _<_ μ-by-columns t) by-columns.Pre
-
-abbrev by-lists-at : ℕ → In 2 by-lists-kinds.ps
-by-lists-at t = and 2 by-lists-kinds.ps (is 2 by-lists-kinds.ps μ-by-lists t) by-lists.Pre
-
-abbrev by-lists-below : ℕ → In 2 by-lists-kinds.ps
-by-lists-below t = and 2 by-lists-kinds.ps (falls 2 by-lists-kinds.ps _<_ μ-by-lists t) by-lists.Pre
-
-abbrev column-at : ℕ → In 2 column-kinds.ps
-column-at t = and 2 column-kinds.ps (is 2 column-kinds.ps μ-column t) column.Pre
-
-abbrev column-below : ℕ → In 2 column-kinds.ps
-column-below t = and 2 column-kinds.ps (falls 2 column-kinds.ps _<_ μ-column t) column.Pre
-
-abbrev columns-at : ℕ → In 2 columns-kinds.ps
-columns-at t = and 2 columns-kinds.ps (is 2 columns-kinds.ps μ-columns t) columns.Pre
-
-abbrev columns-below : ℕ → In 2 columns-kinds.ps
-columns-below t = and 2 columns-kinds.ps (falls 2 columns-kinds.ps _<_ μ-columns t) columns.Pre
-
-abbrev grown-by-at : ℕ → In 2 grown-by-kinds.ps
-grown-by-at t = and 2 grown-by-kinds.ps (is 2 grown-by-kinds.ps μ-grown-by t) grown-by.Pre
-
-abbrev grown-by-below : ℕ → In 2 grown-by-kinds.ps
-grown-by-below t = and 2 grown-by-kinds.ps (falls 2 grown-by-kinds.ps _<_ μ-grown-by t) grown-by.Pre
+abbrev refuted-below : ℕ → In 2 refuted-kinds.ps
+refuted-below t = and 2 refuted-kinds.ps (falls 2 refuted-kinds.ps _<_ μ-refuted t) refuted.Pre
 
 abbrev relation-at : ℕ → In 2 relation-kinds.ps
 relation-at t = and 2 relation-kinds.ps (is 2 relation-kinds.ps μ-relation t) relation.Pre
@@ -348,30 +378,17 @@ relation-at t = and 2 relation-kinds.ps (is 2 relation-kinds.ps μ-relation t) r
 abbrev relation-below : ℕ → In 2 relation-kinds.ps
 relation-below t = and 2 relation-kinds.ps (falls 2 relation-kinds.ps _<_ μ-relation t) relation.Pre
 
+abbrev relations-at : ℕ → In 2 relations-kinds.ps
+relations-at t = and 2 relations-kinds.ps (is 2 relations-kinds.ps μ-relations t) relations.Pre
+
+abbrev relations-below : ℕ → In 2 relations-kinds.ps
+relations-below t = and 2 relations-kinds.ps (falls 2 relations-kinds.ps _<_ μ-relations t) relations.Pre
+
 abbrev said-by-at : ℕ → In 2 said-by-kinds.ps
 said-by-at t = and 2 said-by-kinds.ps (is 2 said-by-kinds.ps μ-said-by t) said-by.Pre
 
 abbrev said-by-below : ℕ → In 2 said-by-kinds.ps
 said-by-below t = and 2 said-by-kinds.ps (falls 2 said-by-kinds.ps _<_ μ-said-by t) said-by.Pre
-
-abbrev can-keep-at : ℕ → In 2 can-keep-kinds.ps
-can-keep-at t = and 2 can-keep-kinds.ps (is 2 can-keep-kinds.ps μ-can-keep t) can-keep.Pre
-
-abbrev can-keep-below : ℕ → In 2 can-keep-kinds.ps
-can-keep-below t = and 2 can-keep-kinds.ps (falls 2 can-keep-kinds.ps _<_ μ-can-keep t) can-keep.Pre
-
-abbrev refuted-at : ℕ → In 2 refuted-kinds.ps
-refuted-at t = and 2 refuted-kinds.ps (is 2 refuted-kinds.ps μ-refuted t) refuted.Pre
-
-abbrev refuted-below : ℕ → In 2 refuted-kinds.ps
-refuted-below t = and 2 refuted-kinds.ps (falls 2 refuted-kinds.ps _<_ μ-refuted t) refuted.Pre
-
-abbrev relations-at : ℕ → In 2 relations-kinds.ps
-relations-at t = and 2 relations-kinds.ps (is 2 relations-kinds.ps μ-relations t) relations.Pre
-
-abbrev relations-below : ℕ → In 2 relations-kinds.ps
-relations-below t =
-    and 2 relations-kinds.ps (falls 2 relations-kinds.ps _<_ μ-relations t) relations.Pre
 
 abbrev solve-at : ℕ → In 2 solve-kinds.ps
 solve-at t = and 2 solve-kinds.ps (is 2 solve-kinds.ps μ-solve t) solve.Pre
@@ -384,6 +401,12 @@ split-at t = and 2 split-kinds.ps (is 2 split-kinds.ps μ-split t) split.Pre
 
 abbrev split-below : ℕ → In 2 split-kinds.ps
 split-below t = and 2 split-kinds.ps (falls 2 split-kinds.ps _<_ μ-split t) split.Pre
+
+abbrev without-at : ℕ → In 2 without-kinds.ps
+without-at t = and 2 without-kinds.ps (is 2 without-kinds.ps μ-without t) without.Pre
+
+abbrev without-below : ℕ → In 2 without-kinds.ps
+without-below t = and 2 without-kinds.ps (falls 2 without-kinds.ps _<_ μ-without t) without.Pre
 
 abbrev world-at : ℕ → In 2 world-kinds.ps
 world-at t = and 2 world-kinds.ps (is 2 world-kinds.ps μ-world t) world.Pre
@@ -400,13 +423,37 @@ abbrev by-asking-calls : ℕ → by-asking-lts.Claims
 by-asking-calls t =
     (start-reads.Asked, start-reads.Learnt, search-reads.Asked, search-reads.Learnt, keeps-below t, keeps.Post, take-reads.Asked, take-reads.Learnt, skip-reads.Asked, skip-reads.Learnt)
 
+abbrev by-columns-calls : ℕ → by-columns-lts.Claims
+by-columns-calls t =
+    (columns-below t, columns.Post, selected-reads.Asked, selected-reads.Learnt, without-below t, without.Post)
+
+abbrev by-core-calls : ℕ → by-core-lts.Claims
+by-core-calls t =
+    (by-list-below t, by-list.Post, minus-reads.Asked, minus-reads.Learnt, is-empty-reads.Asked, is-empty-reads.Learnt, without-below t, without.Post)
+
 abbrev by-list-calls : ℕ → by-list-lts.Claims
 by-list-calls t =
-    (closed-reads.Asked, closed-reads.Learnt, intersection-reads.Asked, intersection-reads.Learnt, minus-reads.Asked, minus-reads.Learnt, largest-below t, largest.Post, selected-reads.Asked, selected-reads.Learnt)
+    (closed-reads.Asked, closed-reads.Learnt, intersection-reads.Asked, intersection-reads.Learnt, minus-reads.Asked, minus-reads.Learnt, largest-below t, largest.Post, selected-reads.Asked, selected-reads.Learnt, blamed-behind-reads.Asked, blamed-behind-reads.Learnt)
+
+abbrev by-lists-calls : ℕ → by-lists-lts.Claims
+by-lists-calls t =
+    (is-short-reads.Asked, is-short-reads.Learnt, said-by-below t, said-by.Post)
+
+abbrev can-keep-calls : ℕ → can-keep-lts.Claims
+can-keep-calls t =
+    (promised-reads.Asked, promised-reads.Learnt, world-below t, world.Post)
 
 abbrev case-holds-calls : ℕ → case-holds-lts.Claims
 case-holds-calls t =
     (branch-reads.Asked, branch-reads.Learnt, world-below t, world.Post)
+
+abbrev column-calls : ℕ → column-lts.Claims
+column-calls t =
+    (closed-reads.Asked, closed-reads.Learnt, intersection-reads.Asked, intersection-reads.Learnt, empty-reads.Asked, empty-reads.Learnt, grown-below t, grown.Post, grown-by-below t, grown-by.Post, weighted-reads.Asked, weighted-reads.Learnt, pays-reads.Asked, pays-reads.Learnt, highest-reads.Asked, highest-reads.Learnt, without-reads.Asked, without-reads.Learnt, minus-reads.Asked, minus-reads.Learnt)
+
+abbrev columns-calls : ℕ → columns-lts.Claims
+columns-calls t =
+    (weighs-reads.Asked, weighs-reads.Learnt, prices-behind-reads.Asked, prices-behind-reads.Learnt, column-below t, column.Post, pays-reads.Asked, pays-reads.Learnt, weighted-reads.Asked, weighted-reads.Learnt, blamed-reads.Asked, blamed-reads.Learnt, also-reads.Asked, also-reads.Learnt)
 
 abbrev core-of-calls : ℕ → core-of-lts.Claims
 core-of-calls t =
@@ -420,61 +467,41 @@ abbrev grown-calls : ℕ → grown-lts.Claims
 grown-calls t =
     (flat-reads.Asked, flat-reads.Learnt, grown-by-below t, grown-by.Post)
 
+abbrev grown-by-calls : ℕ → grown-by-lts.Claims
+grown-by-calls t =
+    (heaviest-reads.Asked, heaviest-reads.Learnt, highest-reads.Asked, highest-reads.Learnt, without-reads.Asked, without-reads.Learnt, with-reads.Asked, with-reads.Learnt, keeps-below t, keeps.Post)
+
 abbrev keeps-calls : ℕ → keeps-lts.Claims
 keeps-calls t =
     (parts-of-reads.Asked, parts-of-reads.Learnt, recall-reads.Asked, recall-reads.Learnt, can-keep-below t, can-keep.Post, remember-reads.Asked, remember-reads.Learnt)
-
-abbrev can-keep-calls : ℕ → can-keep-lts.Claims
-can-keep-calls t =
-    (promised-reads.Asked, promised-reads.Learnt, next-below t, next.Post)
 
 abbrev largest-calls : ℕ → largest-lts.Claims
 largest-calls t =
     (union-reads.Asked, union-reads.Learnt, has-need-reads.Asked, has-need-reads.Learnt, known-reads.Asked, known-reads.Learnt, keeps-below t, keeps.Post, also-reads.Asked, also-reads.Learnt, core-of-below t, core-of.Post, branches-below t, branches.Post)
 
-abbrev next-calls : ℕ → next-lts.Claims
-next-calls t =
-    (recall-reads.Asked, recall-reads.Learnt, empty-reads.Asked, empty-reads.Learnt, world-below t, world.Post, remember-reads.Asked, remember-reads.Learnt)
+abbrev leaf-calls : ℕ → leaf-lts.Claims
+leaf-calls t =
+    (relations-below t, relations.Post, learn-world-reads.Asked, learn-world-reads.Learnt)
 
 abbrev opposed-calls : ℕ → opposed-lts.Claims
 opposed-calls t =
-    (highest-reads.Asked, highest-reads.Learnt, without-reads.Asked, without-reads.Learnt, exceeds-reads.Asked, exceeds-reads.Learnt, pair-reads.Asked, pair-reads.Learnt, keeps-below t, keeps.Post)
+    (closed-reads.Asked, closed-reads.Learnt, intersection-reads.Asked, intersection-reads.Learnt, highest-reads.Asked, highest-reads.Learnt, without-reads.Asked, without-reads.Learnt, exceeds-reads.Asked, exceeds-reads.Learnt, pair-reads.Asked, pair-reads.Learnt, union-reads.Asked, union-reads.Learnt, keeps-below t, keeps.Post, narrowed-reads.Asked, narrowed-reads.Learnt, learn-refuted-reads.Asked, learn-refuted-reads.Learnt)
 
-abbrev by-columns-calls : ℕ → by-columns-lts.Claims
-by-columns-calls t =
-    (columns-below t, columns.Post, selected-reads.Asked, selected-reads.Learnt, narrowed-reads.Asked, narrowed-reads.Learnt, asking-reads.Asked, asking-reads.Learnt, by-list-below t, by-list.Post)
-
-abbrev by-lists-calls : ℕ → by-lists-lts.Claims
-by-lists-calls t =
-    (is-short-reads.Asked, is-short-reads.Learnt, said-by-below t, said-by.Post)
-
-abbrev column-calls : ℕ → column-lts.Claims
-column-calls t =
-    (closed-reads.Asked, closed-reads.Learnt, intersection-reads.Asked, intersection-reads.Learnt, empty-reads.Asked, empty-reads.Learnt, grown-below t, grown.Post, grown-by-below t, grown-by.Post, weighted-reads.Asked, weighted-reads.Learnt, pays-reads.Asked, pays-reads.Learnt, highest-reads.Asked, highest-reads.Learnt, without-reads.Asked, without-reads.Learnt, minus-reads.Asked, minus-reads.Learnt)
-
-abbrev columns-calls : ℕ → columns-lts.Claims
-columns-calls t =
-    (weighs-reads.Asked, weighs-reads.Learnt, prices-behind-reads.Asked, prices-behind-reads.Learnt, column-below t, column.Post, pays-reads.Asked, pays-reads.Learnt, weighted-reads.Asked, weighted-reads.Learnt, also-reads.Asked, also-reads.Learnt)
+abbrev refuted-calls : ℕ → refuted-lts.Claims
+refuted-calls t =
+    (relations-below t, relations.Post)
 
 abbrev relation-calls : ℕ → relation-lts.Claims
 relation-calls t =
     (narrowed-reads.Asked, narrowed-reads.Learnt, recall-reads.Asked, recall-reads.Learnt, solve-below t, solve.Post, remember-reads.Asked, remember-reads.Learnt)
 
-abbrev said-by-calls : ℕ → said-by-lts.Claims
-said-by-calls t =
-    (by-list-below t, by-list.Post, by-columns-below t, by-columns.Post)
-
-abbrev grown-by-calls : ℕ → grown-by-lts.Claims
-grown-by-calls t =
-    (heaviest-reads.Asked, heaviest-reads.Learnt, highest-reads.Asked, highest-reads.Learnt, without-reads.Asked, without-reads.Learnt, with-reads.Asked, with-reads.Learnt, keeps-below t, keeps.Post)
-
-abbrev refuted-calls : ℕ → refuted-lts.Claims
-refuted-calls t =
-    (is-empty-reads.Asked, is-empty-reads.Learnt, relations-below t, relations.Post)
-
 abbrev relations-calls : ℕ → relations-lts.Claims
 relations-calls t =
     (counted-reads.Asked, counted-reads.Learnt, highest-reads.Asked, highest-reads.Learnt, question-of-reads.Asked, question-of-reads.Learnt, asking-reads.Asked, asking-reads.Learnt, relation-below t, relation.Post, minus-reads.Asked, minus-reads.Learnt)
+
+abbrev said-by-calls : ℕ → said-by-lts.Claims
+said-by-calls t =
+    (by-core-below t, by-core.Post, by-columns-below t, by-columns.Post)
 
 abbrev solve-calls : ℕ → solve-lts.Claims
 solve-calls t =
@@ -482,7 +509,11 @@ solve-calls t =
 
 abbrev split-calls : ℕ → split-lts.Claims
 split-calls t =
-    (highest-reads.Asked, highest-reads.Learnt, relations-below t, relations.Post, counted-reads.Asked, counted-reads.Learnt, minus-reads.Asked, minus-reads.Learnt, refuted-below t, refuted.Post, case-holds-below t, case-holds.Post)
+    (highest-reads.Asked, highest-reads.Learnt, leaf-below t, leaf.Post, refuted-below t, refuted.Post, case-holds-below t, case-holds.Post)
+
+abbrev without-calls : ℕ → without-lts.Claims
+without-calls t =
+    (narrowed-reads.Asked, narrowed-reads.Learnt, asking-reads.Asked, asking-reads.Learnt, by-list-below t, by-list.Post, learn-refuted-reads.Asked, learn-refuted-reads.Learnt)
 
 abbrev world-calls : ℕ → world-lts.Claims
 world-calls t =
@@ -531,12 +562,6 @@ made : (t : ℕ) (c : can-keep-lts.After-v (can-keep-calls t) (can-keep-at t) ca
     → Promised (problemOf (c .before .before .before .before .before .args .entries .now) (c .before .before .before .before .before .args .q)) (member (c .before .before .before .before .before .args .promises)) (c .before .before .before .before .before .args .depth - 1) (c .v .given .0 .0)
 made t c = rw (c .v .given .1) at (c .before .before .promised .ensures)
 
-can-keep-next-requires : (t : ℕ) → can-keep-lts.Need-next-requires (can-keep-calls t) (can-keep-at t) can-keep.Post
-can-keep-next-requires t c κs =
-    let start = (c .before .before .before .before .before .before .before) in
-    let asked = start .pre .1 in
-    (omega (arith, start .pre .0), record { ready = made t (c .before .before) .ready; deep = asked .deep; room = asked .room; memory = asked .memory })
-
 can-keep-enum-told : (t : ℕ) → can-keep-lts.Need-enum-told (can-keep-calls t) (can-keep-at t) can-keep.Post
 can-keep-enum-told t c = search needs
 
@@ -545,12 +570,14 @@ can-keep-same-length t c = search needs
 
 can-keep-returns : (t : ℕ) → can-keep-lts.Need-returns (can-keep-calls t) (can-keep-at t) can-keep.Post
 can-keep-returns t c =
-    let start = (c .before .before .before .before .before .before .before .before .before .before) in
-    let had = c .before .before .next .ensures in
+    let start = c .before .before .before .before .before .before .before .before .before .before in
+    let a = start .args in
+    let asked = start .pre .1 in
+    let worked = c .before .before .world .last .1 .1 .1 .1 .1 .0 in
     record {
-      answers = promised-fit (problemOf (start .args .entries .now) (start .args .q)) (start .args .promises) (start .args .depth - 1) (start .pre .1 .promising) (made t (c .before .before .before .before .before)) (c .before .before .next .result) (had .answers);
-      same = had .same;
-      memory = had .memory;
+      answers = promised-fit (problemOf (a .entries .now) (a .q)) (a .promises) (a .depth - 1) (asked .promising) (made t (c .before .before .before .before .before)) (c .before .before .world .result) (c .before .before .world .ensures .0);
+      same = take-put (a .level) (length (a .work .now) - a .level) (a .work .now) worked (room-level (asked .room));
+      memory = memory-above (wideAt (a .entries .now)) (a .work .now) (a .depth) (a .level) (asked .deep) (room-level (asked .room)) worked (c .before .before .world .ensures .1);
     }
 
 can-keep-returns-2 : (t : ℕ) → can-keep-lts.Need-returns-2 (can-keep-calls t) (can-keep-at t) can-keep.Post
@@ -624,95 +651,15 @@ keeps-returns-2 t c =
           (stored .memory entry (memory-from entry (a .depth) (a .level) mid (kept .memory)) (fit-parts (problemOf (a .entries .now) (a .q)) (a .promises) (start .pre .1 .promising) (parts .0) (parts .1) (c .before .before .before .before .before .before .can-keep .result) (kept .answers)));
     }
 
-next-add-from : (t : ℕ) → next-lts.Need-add-from (next-calls t) (next-at t) next.Post
-next-add-from t c = omega (arith, room-depth (c .before .before .before .before .pre .1 .room), c .before .before .before .before .good .1 .1 .1 .1 .0)
-
-next-mul-from : (t : ℕ) → next-lts.Need-mul-from (next-calls t) (next-at t) next.Post
-next-mul-from t c = record { fits = from-fits (c .before .before .before .before .pre .1 .room) (omega (arith, c .before .before .before .before .good .1 .1 .1 .1 .0)) }
-
-next-recall-requires : (t : ℕ) → next-lts.Need-recall-requires (next-calls t) (next-at t) next.Post
-next-recall-requires t c κs = search needs
-
-next-enum-known-known : (t : ℕ) → next-lts.Need-enum-known-known (next-calls t) (next-at t) next.Post
-next-enum-known-known t c = search needs
-
-next-same-length : (t : ℕ) → next-lts.Need-same-length (next-calls t) (next-at t) next.Post
-next-same-length t c = search needs
-
-next-returns : (t : ℕ) → next-lts.Need-returns (next-calls t) (next-at t) next.Post
-next-returns t c =
-    let start = (c .before .before .before .before .before .before .before .before .before) in
-    record {
-      answers = rw (c .before .known .given .1) at (c .before .before .before .recall .ensures (wideAt (start .args .entries .now)) (memory-from (wideAt (start .args .entries .now)) (start .args .depth) (start .args .level) (start .args .work .now) (start .pre .1 .memory)));
-      same = refl;
-      memory = start .pre .1 .memory;
-    }
-
-next-enum-told : (t : ℕ) → next-lts.Need-enum-told (next-calls t) (next-at t) next.Post
-next-enum-told t c = search needs
-
-next-sub-world : (t : ℕ) → next-lts.Need-sub-world (next-calls t) (next-at t) next.Post
-next-sub-world t c = omega (arith, c .before .before .before .before .before .before .before .before .before .pre .1 .deep)
-
-next-mul-world : (t : ℕ) → next-lts.Need-mul-world (next-calls t) (next-at t) next.Post
-next-mul-world t c = omega (arith, room-level (c .before .before .before .before .before .before .before .before .before .pre .1 .room), c .before .before .before .before .before .before .before .before .before .good .1 .1 .1 .1 .0)
-
-next-sub-world-2 : (t : ℕ) → next-lts.Need-sub-world-2 (next-calls t) (next-at t) next.Post
-next-sub-world-2 t c = omega (arith, room-level (c .before .before .before .before .before .before .before .before .before .pre .1 .room))
-
-next-part-world-start : (t : ℕ) → next-lts.Need-part-world-start (next-calls t) (next-at t) next.Post
-next-part-world-start t c = room-level (c .before .before .before .before .before .before .before .before .before .pre .1 .room)
-
-next-part-world-end : (t : ℕ) → next-lts.Need-part-world-end (next-calls t) (next-at t) next.Post
-next-part-world-end t c = search needs
-
-next-world-requires : (t : ℕ) → next-lts.Need-world-requires (next-calls t) (next-at t) next.Post
-next-world-requires t c κs =
-    let start = (c .before .before .before .before .before .before .before .before .before .before) in
-    let asked = start .pre .1 in (
-      omega (arith, start .pre .0, asked .deep),
-      record {
-        ready = asked .ready;
-        small = omega arith;
-        room = room-kept (length-behind (start .args .work .now) (start .args .level)) (room-below (asked .room) (asked .deep));
-        memory = memory-below (wideAt (start .args .entries .now)) (start .args .work .now) (start .args .depth) (start .args .level) (asked .deep) (room-level (asked .room)) (asked .memory);
-      },
-    )
-
-next-remember-requires : (t : ℕ) → next-lts.Need-remember-requires (next-calls t) (next-at t) next.Post
-next-remember-requires t c κs = search needs
-
-next-same-length-2 : (t : ℕ) → next-lts.Need-same-length-2 (next-calls t) (next-at t) next.Post
-next-same-length-2 t c = search needs
-
-next-returns-2 : (t : ℕ) → next-lts.Need-returns-2 (next-calls t) (next-at t) next.Post
-next-returns-2 t c =
-    let start = (c .before .before .before .before .before .before .before .before .before .before .before .before .before .before .before .before .before) in
-    let asked = start .pre .1 in
-    let entry = wideAt (start .args .entries .now) in
-    let d = start .args .depth in
-    let level = start .args .level in
-    let work = start .args .work .now in
-    let stored = c .before .before .remember .ensures in
-    let worked = c .before .before .before .before .before .before .world .last .1 .1 .1 .1 .1 .1 .0 in
-    let mid = putMid level (length work - level) work worked in
-    let after = c .before .before .remember .last .0 in
-    record {
-      answers = c .before .before .before .before .before .before .world .ensures .0;
-      same = next-same d level after mid work (stored .same) (take-put level (length work - level) work worked (room-level (asked .room)));
-      memory = memory-to entry d level after
-          (stored .memory entry (memory-from entry d level mid (memory-above entry work d level (asked .deep) (room-level (asked .room)) worked (c .before .before .before .before .before .before .world .ensures .1))) (c .before .before .before .before .before .before .world .ensures .0));
-    }
-
 abbrev opposed-Inv-loop : opposed-lts.InvT-loop
-opposed-Inv-loop entries q all depth level work₀ needs₀ limits₀ work needs limits =
+opposed-Inv-loop entries q all depth level work₀ base needs₀ limits₀ work needs limits =
     Within (member needs) (member all) × Within (member limits) (member all) × (length work ≡ length work₀) × (take level work ≡ take level work₀) × Remembers (wideAt entries) depth level work
 
 abbrev opposed-μ-loop : opposed-lts.MeasureT-loop
-opposed-μ-loop entries q all depth level work₀ needs₀ limits₀ work needs limits = count (member needs) (length entries) * 65 + count (member limits) (length entries)
+opposed-μ-loop entries q all depth level work₀ base needs₀ limits₀ work needs limits = count (member needs) (length entries) * 65 + count (member limits) (length entries)
 
 opposed-loop-holds : (t : ℕ) → opposed-lts.Need-loop-holds (opposed-calls t) (opposed-at t) opposed.Post opposed-Inv-loop opposed-μ-loop
-opposed-loop-holds t c = (λ i h. h, λ i h. h, refl, refl, c .before .before .pre .1 .memory)
+opposed-loop-holds t c = (λ i h. h, λ i h. h, refl, refl, c .before .before .before .before .pre .1 .memory)
 
 opposed-highest-requires : (t : ℕ) → opposed-lts.Need-highest-requires (opposed-calls t) (opposed-at t) opposed.Post opposed-Inv-loop opposed-μ-loop
 opposed-highest-requires t c κs = search needs
@@ -739,14 +686,14 @@ opposed-enum-known-j t c = search needs
 first-in : (t : ℕ) (c : opposed-lts.After-i (opposed-calls t) (opposed-at t) opposed.Post opposed-Inv-loop opposed-μ-loop) → member (c .before .before .before .loop .needs) (c .i .given .0 .0) ≡ true
 first-in t c = (rw (c .i .given .1) at (c .before .before .highest .ensures)) .here
 
-first-below : (t : ℕ) (c : opposed-lts.After-i (opposed-calls t) (opposed-at t) opposed.Post opposed-Inv-loop opposed-μ-loop) → c .i .given .0 .0 < length (c .before .before .before .before .before .before .args .entries .now)
-first-below t c = chosen-below (c .before .before .before .before .before .before .pre .1) (c .before .before .before .loop .inv .0) _ (first-in t c)
+first-below : (t : ℕ) (c : opposed-lts.After-i (opposed-calls t) (opposed-at t) opposed.Post opposed-Inv-loop opposed-μ-loop) → c .i .given .0 .0 < length (c .before .before .before .before .before .before .before .before .args .entries .now)
+first-below t c = chosen-below (c .before .before .before .before .before .before .before .before .pre .1) (c .before .before .before .loop .inv .0) _ (first-in t c)
 
 second-in : (t : ℕ) (c : opposed-lts.After-j (opposed-calls t) (opposed-at t) opposed.Post opposed-Inv-loop opposed-μ-loop) → member (c .before .before .before .before .before .before .before .loop .limits) (c .j .given .0 .0) ≡ true
 second-in t c = (rw (c .j .given .1) at (c .before .before .highest2 .ensures)) .here
 
-second-below : (t : ℕ) (c : opposed-lts.After-j (opposed-calls t) (opposed-at t) opposed.Post opposed-Inv-loop opposed-μ-loop) → c .j .given .0 .0 < length (c .before .before .before .before .before .before .before .before .before .before .args .entries .now)
-second-below t c = chosen-below (c .before .before .before .before .before .before .before .before .before .before .pre .1) (c .before .before .before .before .before .before .before .loop .inv .1) _ (second-in t c)
+second-below : (t : ℕ) (c : opposed-lts.After-j (opposed-calls t) (opposed-at t) opposed.Post opposed-Inv-loop opposed-μ-loop) → c .j .given .0 .0 < length (c .before .before .before .before .before .before .before .before .before .before .before .before .args .entries .now)
+second-below t c = chosen-below (c .before .before .before .before .before .before .before .before .before .before .before .before .pre .1) (c .before .before .before .before .before .before .before .loop .inv .1) _ (second-in t c)
 
 opposed-without-requires : (t : ℕ) → opposed-lts.Need-without-requires (opposed-calls t) (opposed-at t) opposed.Post opposed-Inv-loop opposed-μ-loop
 opposed-without-requires t c κs = search needs
@@ -755,40 +702,52 @@ opposed-exceeds-requires : (t : ℕ) → opposed-lts.Need-exceeds-requires (oppo
 opposed-exceeds-requires t c κs = (first-below t (c .before .before .before .before .before .before), second-below t (c .before .before))
 
 opposed-pair-requires : (t : ℕ) → opposed-lts.Need-pair-requires (opposed-calls t) (opposed-at t) opposed.Post opposed-Inv-loop opposed-μ-loop
-opposed-pair-requires t c κs = (omega (arith, first-below t (c .before .before .before .before .before .before .before .before), c .before .before .before .before .before .before .before .before .before .before .before .before .before .before .pre .1 .promising .few), omega (arith, second-below t (c .before .before .before .before), c .before .before .before .before .before .before .before .before .before .before .before .before .before .before .pre .1 .promising .few))
+opposed-pair-requires t c κs = (omega (arith, first-below t (c .before .before .before .before .before .before .before .before), c .before .before .before .before .before .before .before .before .before .before .before .before .before .before .before .before .pre .1 .promising .few), omega (arith, second-below t (c .before .before .before .before), c .before .before .before .before .before .before .before .before .before .before .before .before .before .before .before .before .pre .1 .promising .few))
+
+-- the limits that allow none
+kept-closed : (t : ℕ) (c : opposed-lts.After-intersection (opposed-calls t) (opposed-at t) opposed.Post opposed-Inv-loop opposed-μ-loop)
+    → (i : ℕ) → member (c .intersection .result) i ≡ true → Closed (problemOf (c .before .before .before .before .args .entries .now) (c .before .before .before .before .args .q)) i
+kept-closed t c = λ i h. c .before .closed .ensures i (both-parts true (member (c .before .closed .result) i) _ (rw (c .intersection .ensures) at h) .0)
+
+-- they are asked for
+kept-all : (t : ℕ) (c : opposed-lts.After-intersection (opposed-calls t) (opposed-at t) opposed.Post opposed-Inv-loop opposed-μ-loop)
+    → Within (member (c .intersection .result)) (member (c .before .before .before .before .args .all))
+kept-all t c = λ i h. both-parts true (member (c .before .closed .result) i) _ (rw (c .intersection .ensures) at h) .1
 
 opposed-keeps-requires : (t : ℕ) → opposed-lts.Need-keeps-requires (opposed-calls t) (opposed-at t) opposed.Post opposed-Inv-loop opposed-μ-loop
 opposed-keeps-requires t c κs =
-    let start = (c .before .before .before .before .before .before .before .before .before .before .before .before .before .before .before .before) in
-    let asked = start .pre .1 in (
+    let start = c .before .before .before .before .before .before .before .before .before .before .before .before .before .before .before .before .before .before .before in
+    let asked = start .pre .1 in
+    let loop = c .before .before .before .before .before .before .before .before .before .before .before .before .before .before .loop in (
       omega (arith, start .pre .0),
       record {
-        promising = pair-asked asked _ _ _ (c .before .pair .ensures) (c .before .before .before .before .before .before .before .before .before .before .before .before .before .loop .inv .0 _ (first-in t (c .before .before .before .before .before .before .before .before .before .before))) (c .before .before .before .before .before .before .before .before .before .before .before .before .before .loop .inv .1 _ (second-in t (c .before .before .before .before .before .before)));
+        promising = pair-asked asked _ _ _ _ _ (c .before .before .pair .ensures) (c .before .union .ensures) (kept-all t (c .before .before .before .before .before .before .before .before .before .before .before .before .before .before .before)) (loop .inv .0 _ (first-in t (c .before .before .before .before .before .before .before .before .before .before .before))) (loop .inv .1 _ (second-in t (c .before .before .before .before .before .before .before)));
         deep = asked .deep;
-        room = room-kept (c .before .before .before .before .before .before .before .before .before .before .before .before .before .loop .inv .2) (asked .room);
-        memory = c .before .before .before .before .before .before .before .before .before .before .before .before .before .loop .inv .4;
+        room = room-kept (loop .inv .2) (asked .room);
+        memory = loop .inv .4;
       },
     )
 
 opposed-same-length-2 : (t : ℕ) → opposed-lts.Need-same-length-2 (opposed-calls t) (opposed-at t) opposed.Post opposed-Inv-loop opposed-μ-loop
-opposed-same-length-2 t c = c .before .before .before .keeps .kept .1 .1 .1 .1 .1 .0 ∙ c .before .before .before .before .before .before .before .before .before .before .before .before .before .before .before .before .before .loop .inv .2
+opposed-same-length-2 t c = c .before .before .learn-refuted .kept .1 .1 .1 .1 .0 ∙ c .before .before .before .before .before .before .before .before .keeps .kept .1 .1 .1 .1 .1 .0 ∙ c .before .before .before .before .before .before .before .before .before .before .before .before .before .before .before .before .before .before .before .before .before .before .before .loop .inv .2
 
 opposed-returns-2 : (t : ℕ) → opposed-lts.Need-returns-2 (opposed-calls t) (opposed-at t) opposed.Post opposed-Inv-loop opposed-μ-loop
-opposed-returns-2 t c = record {
-  answers = λ e. pair-opposed _ _ _ _ (c .before .before .before .before .before .pair .ensures) (c .before .before .before .before .before .before .before .exceeds .ensures (c .before .before .before .before .before .before .if1 .taken)) (rw (not-true (c .before .before .before .keeps .result) (c .if2 .taken)) at (c .before .before .before .keeps .ensures .answers));
-  same = c .before .before .before .keeps .ensures .same ∙ c .before .before .before .before .before .before .before .before .before .before .before .before .before .before .before .before .before .loop .inv .3;
-  memory = c .before .before .before .keeps .ensures .memory;
-}
+opposed-returns-2 t c =
+    record {
+      answers = λ e. pair-opposed _ _ _ _ _ _ (c .before .before .before .before .before .before .before .before .before .before .before .pair .ensures) (c .before .before .before .before .before .before .before .before .before .before .union .ensures) (kept-closed t (c .before .before .before .before .before .before .before .before .before .before .before .before .before .before .before .before .before .before .before .before .before .before .before .before)) (c .before .before .before .before .before .before .before .before .before .before .before .before .before .exceeds .ensures (c .before .before .before .before .before .before .before .before .before .before .before .before .if1 .taken)) (rw (not-true (c .before .before .before .before .before .before .before .before .keeps .result) (c .before .before .before .before .before .if2 .taken)) at (c .before .before .before .before .before .before .before .before .keeps .ensures .answers));
+      same = c .before .before .learn-refuted .ensures .same ∙ c .before .before .before .before .before .before .before .before .keeps .ensures .same ∙ c .before .before .before .before .before .before .before .before .before .before .before .before .before .before .before .before .before .before .before .before .before .before .before .loop .inv .3;
+      memory = c .before .before .learn-refuted .ensures .memory;
+    }
 
 opposed-loop-less : (t : ℕ) → opposed-lts.Need-loop-less (opposed-calls t) (opposed-at t) opposed.Post opposed-Inv-loop opposed-μ-loop
-opposed-loop-less t c = rw (c .before .before .before .before .before .before .before .before .without .ensures) (omega (arith, count-removed (member (c .before .before .before .before .before .before .before .before .before .before .before .before .before .before .before .before .before .loop .limits)) _ (second-in t (c .before .before .before .before .before .before .before .before .before .before)) (second-below t (c .before .before .before .before .before .before .before .before .before .before))))
+opposed-loop-less t c = rw (c .before .before .before .before .before .before .before .before .before .without .ensures) (omega (arith, count-removed (member (c .before .before .before .before .before .before .before .before .before .before .before .before .before .before .before .before .before .before .loop .limits)) _ (second-in t (c .before .before .before .before .before .before .before .before .before .before .before)) (second-below t (c .before .before .before .before .before .before .before .before .before .before .before))))
 
 opposed-loop-again : (t : ℕ) → opposed-lts.Need-loop-again (opposed-calls t) (opposed-at t) opposed.Post opposed-Inv-loop opposed-μ-loop
 opposed-loop-again t c = (
-  c .before .before .before .before .before .before .before .before .before .before .before .before .before .before .before .before .before .loop .inv .0,
-  rw (c .before .before .before .before .before .before .before .before .without .ensures) (within-removed _ (c .before .before .before .before .before .before .before .before .before .before .before .before .before .before .before .before .before .loop .inv .1)),
-  c .before .before .before .keeps .kept .1 .1 .1 .1 .1 .0 ∙ c .before .before .before .before .before .before .before .before .before .before .before .before .before .before .before .before .before .loop .inv .2,
-  c .before .before .before .keeps .ensures .same ∙ c .before .before .before .before .before .before .before .before .before .before .before .before .before .before .before .before .before .loop .inv .3,
+  c .before .before .before .before .before .before .before .before .before .before .before .before .before .before .before .before .before .before .loop .inv .0,
+  rw (c .before .before .before .before .before .before .before .before .before .without .ensures) (within-removed _ (c .before .before .before .before .before .before .before .before .before .before .before .before .before .before .before .before .before .before .loop .inv .1)),
+  c .before .before .before .keeps .kept .1 .1 .1 .1 .1 .0 ∙ c .before .before .before .before .before .before .before .before .before .before .before .before .before .before .before .before .before .before .loop .inv .2,
+  c .before .before .before .keeps .ensures .same ∙ c .before .before .before .before .before .before .before .before .before .before .before .before .before .before .before .before .before .before .loop .inv .3,
   c .before .before .before .keeps .ensures .memory,
 )
 
@@ -807,7 +766,7 @@ opposed-without-requires-2 t c κs = search needs
 opposed-loop-less-3 : (t : ℕ) → opposed-lts.Need-loop-less-3 (opposed-calls t) (opposed-at t) opposed.Post opposed-Inv-loop opposed-μ-loop
 opposed-loop-less-3 t c =
     rw (c .without2 .ensures)
-    (omega (arith, count-removed (member (c .before .before .before .before .before .before .before .before .loop .needs)) _ (first-in t (c .before .before .before .before .before)) (first-below t (c .before .before .before .before .before)), count-le (member (c .before .before .before .before .before .before .before .before .before .before .before .args .all)) (length (c .before .before .before .before .before .before .before .before .before .before .before .args .entries .now)), c .before .before .before .before .before .before .before .before .before .before .before .pre .1 .promising .few))
+    (omega (arith, count-removed (member (c .before .before .before .before .before .before .before .before .loop .needs)) _ (first-in t (c .before .before .before .before .before)) (first-below t (c .before .before .before .before .before)), count-le (member (c .before .before .before .before .before .before .before .before .before .before .before .before .before .args .all)) (length (c .before .before .before .before .before .before .before .before .before .before .before .before .before .args .entries .now)), c .before .before .before .before .before .before .before .before .before .before .before .before .before .pre .1 .promising .few))
 
 opposed-loop-again-3 : (t : ℕ) → opposed-lts.Need-loop-again-3 (opposed-calls t) (opposed-at t) opposed.Post opposed-Inv-loop opposed-μ-loop
 opposed-loop-again-3 t c = (rw (c .without2 .ensures) (within-removed _ (c .before .before .before .before .before .before .before .before .loop .inv .0)), λ i h. h, c .before .before .before .before .before .before .before .before .loop .inv .2, c .before .before .before .before .before .before .before .before .loop .inv .3, c .before .before .before .before .before .before .before .before .loop .inv .4)
@@ -1137,9 +1096,6 @@ branches-branches-requires t c κs =
       },
     )
 
-branches-enum-told-2 : (t : ℕ) → branches-lts.Need-enum-told-2 (branches-calls t) (branches-at t) branches.Post
-branches-enum-told-2 t c = search needs
-
 branches-same-length : (t : ℕ) → branches-lts.Need-same-length (branches-calls t) (branches-at t) branches.Post
 branches-same-length t c = c .before .before .branches .kept .1 .1 .1 .1 .1 .1 .1 .1 .0 ∙ c .before .before .before .before .before .before .before .before .before .before .before .largest .kept .1 .1 .1 .1 .1 .1 .1 .0
 
@@ -1150,10 +1106,10 @@ branches-returns-2 t c =
     (listed-first t (c .before .before .before .before .before .before .before)) (c .before .before .branches .result) (rw (c .before .before .before .before .before .with .ensures, c .before .before .before .before .before .before .before .before .before .before .before .before .before .without .ensures) at (c .before .before .branches .ensures))
 
 branches-same-length-2 : (t : ℕ) → branches-lts.Need-same-length-2 (branches-calls t) (branches-at t) branches.Post
-branches-same-length-2 t c = c .before .before .before .before .largest .kept .1 .1 .1 .1 .1 .1 .1 .0
+branches-same-length-2 t c = c .before .before .before .before .before .largest .kept .1 .1 .1 .1 .1 .1 .1 .0
 
 branches-returns-3 : (t : ℕ) → branches-lts.Need-returns-3 (branches-calls t) (branches-at t) branches.Post
-branches-returns-3 t c = rw (c .enum-told2 .given .1) at (c .before .before .before .before .largest .ensures)
+branches-returns-3 t c = rw (c .before .all .given .1) at (c .before .before .before .before .before .largest .ensures)
 
 -- ---- core_of
 
@@ -1433,27 +1389,21 @@ split-enum-told : (t : ℕ) → split-lts.Need-enum-told (split-calls t) (split-
 split-enum-told t c = search needs
 
 -- the entry to split
-top : (t : ℕ) (c : split-lts.After-d (split-calls t) (split-at t) split.Post) → Greatest (member (c .before .before .before .before .before .before .args .w .pending)) (c .d .given .0 .0)
+top : (t : ℕ) (c : split-lts.After-d (split-calls t) (split-at t) split.Post)
+    → Greatest (member (c .before .before .before .before .before .before .args .w .pending)) (c .d .given .0 .0)
 top t c = rw (c .d .given .1) at (c .before .before .highest .ensures)
-
-split-relations-requires : (t : ℕ) → split-lts.Need-relations-requires (split-calls t) (split-at t) split.Post
-split-relations-requires t c κs =
-    let start = (c .before .before .before .before .before .before .before) in
-    let asked = start .pre .1 in
-    (omega (arith, start .pre .0), record { ready = ready-wider (asked .ready) (asked .small); room = asked .room; memory = asked .memory })
 
 split-same-length : (t : ℕ) → split-lts.Need-same-length (split-calls t) (split-at t) split.Post
 split-same-length t c = search needs
 
 split-returns : (t : ℕ) → split-lts.Need-returns (split-calls t) (split-at t) split.Post
-split-returns t c =
-    (solved-world _ _ (ready-leaf (c .before .before .before .before .before .before .before .before .before .before .pre .1 .ready) (rw (c .before .before .before .before .enum-told .given .1) at (c .before .before .before .before .before .before .highest .ensures))) (c .before .before .relations .result) (c .before .before .relations .ensures .0), c .before .before .relations .ensures .1)
+split-returns t c = c .before .before .leaf .ensures
 
 split-case-holds-requires : (t : ℕ) → split-lts.Need-case-holds-requires (split-calls t) (split-at t) split.Post
 split-case-holds-requires t c κs =
-    let start = (c .before .before .before .before .before .before .before .before .before .before .before .before .before .before .before) in
+    let start = c .before .before .before .before .before .before .before .before .before .before .before .before .before in
     let asked = start .pre .1 in
-    let highest = top t (c .before .before .before .before .before .before .before .before .before) in
+    let highest = top t (c .before .before .before .before .before .before .before) in
     let below = asked .ready .pending-below _ (highest .here) in
     (omega (arith, start .pre .0), record { ready = ready-wider (asked .ready) (asked .small); top = highest; small = omega (arith, asked .small); room = room-kept (c .before .before .before .before .refuted .kept .1 .1 .1 .1 .1 .0) (asked .room); memory = c .before .before .before .before .refuted .ensures .1 })
 
@@ -1465,11 +1415,11 @@ split-returns-2 t c = (c .before .before .before .refuted .ensures .0 (c .if1 .t
 
 split-case-holds-requires-2 : (t : ℕ) → split-lts.Need-case-holds-requires-2 (split-calls t) (split-at t) split.Post
 split-case-holds-requires-2 t c κs =
-    let start = (c .before .before .before .before .before .before .before .before .before .before .before .before .before .before .before .before .before .before .before .before) in
+    let start = c .before .before .before .before .before .before .before .before .before .before .before .before .before .before .before .before .before .before in
     let asked = start .pre .1 in
-    let highest = top t (c .before .before .before .before .before .before .before .before .before .before .before .before .before .before) in
+    let highest = top t (c .before .before .before .before .before .before .before .before .before .before .before .before) in
     let below = asked .ready .pending-below _ (highest .here) in
-    (omega (arith, start .pre .0), record { ready = ready-wider (asked .ready) (asked .small); top = highest; small = omega (arith, asked .small); room = room-kept (c .before .before .before .before .case-holds .kept .1 .1 .1 .1 .1 .1 .1 .0 ∙ c .before .before .before .before .before .before .before .before .before .refuted .kept .1 .1 .1 .1 .1 .0) (asked .room); memory = c .before .before .before .before .case-holds .ensures .1 })
+    (omega (arith, start .pre .0), record { ready = ready-wider (asked .ready) (asked .small); top = highest; small = omega (arith, asked .small); room = room-kept (c .before .before .before .before .case-holds .kept .1 .1 .1 .1 .1 .1 .0 ∙ c .before .before .before .before .before .before .before .before .before .refuted .kept .1 .1 .1 .1 .1 .0) (asked .room); memory = c .before .before .before .before .case-holds .ensures .1 })
 
 split-same-length-3 : (t : ℕ) → split-lts.Need-same-length-3 (split-calls t) (split-at t) split.Post
 split-same-length-3 t c = search needs
@@ -1477,17 +1427,11 @@ split-same-length-3 t c = search needs
 split-returns-3 : (t : ℕ) → split-lts.Need-returns-3 (split-calls t) (split-at t) split.Post
 split-returns-3 t c = rw (c .if2 .taken) at (c .before .before .before .case-holds .ensures)
 
-refuted-is-empty-requires : (t : ℕ) → refuted-lts.Need-is-empty-requires (refuted-calls t) (refuted-at t) refuted.Post
-refuted-is-empty-requires t c κs = search needs
-
 refuted-returns : (t : ℕ) → refuted-lts.Need-returns (refuted-calls t) (refuted-at t) refuted.Post
-refuted-returns t c = (λ e. absurd (false≢true e), c .before .before .before .before .pre .1 .memory)
+refuted-returns t c = (λ e. absurd (false≢true e), c .before .before .before .pre .1 .memory)
 
 refuted-relations-requires : (t : ℕ) → refuted-lts.Need-relations-requires (refuted-calls t) (refuted-at t) refuted.Post
-refuted-relations-requires t c κs =
-    let start = (c .before .before .before .before .before) in
-    let asked = start .pre .1 in
-    (omega (arith, start .pre .0), record { ready = asked .ready; room = asked .room; memory = asked .memory })
+refuted-relations-requires t c κs = (omega (arith, c .before .before .before .before .pre .0), c .before .before .before .before .pre .1)
 
 refuted-same-length : (t : ℕ) → refuted-lts.Need-same-length (refuted-calls t) (refuted-at t) refuted.Post
 refuted-same-length t c = search needs
@@ -1495,15 +1439,9 @@ refuted-same-length t c = search needs
 refuted-returns-2 : (t : ℕ) → refuted-lts.Need-returns-2 (refuted-calls t) (refuted-at t) refuted.Post
 refuted-returns-2 t c = (λ e. rw (not-true (c .before .before .relations .result) e) at (c .before .before .relations .ensures .0), c .before .before .relations .ensures .1)
 
-split-counted-requires : (t : ℕ) → split-lts.Need-counted-requires (split-calls t) (split-at t) split.Post
-split-counted-requires t c κs = ready-bounded (c .before .before .before .before .before .before .before .pre .1 .ready)
-
-split-minus-requires : (t : ℕ) → split-lts.Need-minus-requires (split-calls t) (split-at t) split.Post
-split-minus-requires t c κs = search needs
-
 split-refuted-requires : (t : ℕ) → split-lts.Need-refuted-requires (split-calls t) (split-at t) split.Post
 split-refuted-requires t c κs =
-    let start = (c .before .before .before .before .before .before .before .before .before .before) in
+    let start = c .before .before .before .before .before .before .before .before in
     let asked = start .pre .1 in
     (omega (arith, start .pre .0), record { ready = ready-wider (asked .ready) (asked .small); room = asked .room; memory = asked .memory })
 
@@ -1512,25 +1450,23 @@ split-same-length-4 t c = search needs
 
 split-returns-4 : (t : ℕ) → split-lts.Need-returns-4 (split-calls t) (split-at t) split.Post
 split-returns-4 t c =
-    let asked = c .before .before .before .before .before .before .before .before .before .before .before .before .before .before .before .before .before .before .before .before .before .before .before .pre .1 in
-    (world-answer (ready-wider (asked .ready) (asked .small)) (top t (c .before .before .before .before .before .before .before .before .before .before .before .before .before .before .before .before .before)) (rw (c .before .before .before .before .if2 .left) at (c .before .before .before .before .before .before .before .case-holds .ensures .0)) (c .before .before .case-holds2 .result) (c .before .before .case-holds2 .ensures .0), c .before .before .case-holds2 .ensures .1)
-
-next-empty-requires : (t : ℕ) → next-lts.Need-empty-requires (next-calls t) (next-at t) next.Post
-next-empty-requires t c κs = search needs
+    let asked = c .before .before .before .before .before .before .before .before .before .before .before .before .before .before .before .before .before .before .before .before .before .pre .1 in
+    (world-answer (ready-wider (asked .ready) (asked .small)) (top t (c .before .before .before .before .before .before .before .before .before .before .before .before .before .before .before)) (rw (c .before .before .before .before .if2 .left) at (c .before .before .before .before .before .before .before .case-holds .ensures .0)) (c .before .before .case-holds2 .result) (c .before .before .case-holds2 .ensures .0), c .before .before .case-holds2 .ensures .1)
 
 world-force-requires : (t : ℕ) → world-lts.Need-force-requires (world-calls t) (world-at t) world.Post
-world-force-requires t c κs = c .before .before .pre .1 .ready
+world-force-requires t c κs = c .before .before .before .pre .1
 
 world-enum-known-v : (t : ℕ) → world-lts.Need-enum-known-v (world-calls t) (world-at t) world.Post
 world-enum-known-v t c = search needs
 
 -- what follows of what is wanted
-forced : (t : ℕ) (c : world-lts.After-v (world-calls t) (world-at t) world.Post) → Forced (wideAt (c .before .before .before .before .before .args .entries .now)) (length (c .before .before .before .before .before .args .entries .now)) (c .before .before .before .before .before .args .w) (c .before .before .before .before .before .args .bound) (c .before .before .before .before .before .args .depth) (c .v .given .0 .0)
+forced : (t : ℕ) (c : world-lts.After-v (world-calls t) (world-at t) world.Post)
+    → Forced (wideAt (c .before .before .before .before .before .before .args .entries .now)) (length (c .before .before .before .before .before .before .args .entries .now)) (c .before .before .before .before .before .before .args .w) (c .before .before .before .before .before .before .args .bound) (c .before .before .before .before .before .before .args .depth) (c .v .given .0 .0)
 forced t c = rw (c .v .given .1) at (c .before .before .force .ensures)
 
 world-split-requires : (t : ℕ) → world-lts.Need-split-requires (world-calls t) (world-at t) world.Post
 world-split-requires t c κs =
-    let start = (c .before .before .before .before .before .before .before) in
+    let start = c .before .before .before .before .before .before .before .before in
     let asked = start .pre .1 in
     (omega (arith, start .pre .0), record { ready = forced t (c .before .before) .ready; small = asked .small; room = asked .room; memory = asked .memory })
 
@@ -1544,7 +1480,7 @@ world-returns : (t : ℕ) → world-lts.Need-returns (world-calls t) (world-at t
 world-returns t c = (forced-answer (forced t (c .before .before .before .before .before)) (c .before .before .split .result) (c .before .before .split .ensures .0), c .before .before .split .ensures .1)
 
 world-returns-2 : (t : ℕ) → world-lts.Need-returns-2 (world-calls t) (world-at t) world.Post
-world-returns-2 t c = (λ sat. (rw (c .enum-told .given .1) at (c .before .before .force .ensures)) (sat .structure) (sat .world) (sat .meets), c .before .before .before .before .before .pre .1 .memory)
+world-returns-2 t c = (λ sat. (rw (c .enum-told .given .1) at (c .before .before .force .ensures)) (sat .structure) (sat .world) (sat .inside) (sat .meets), c .before .before .before .before .before .before .pre .1 .memory)
 
 abbrev grown-by-Inv-loop : grown-by-lts.InvT-loop
 grown-by-Inv-loop entries q prices depth level work₀ set₀ rest₀ work set rest =
@@ -1868,9 +1804,6 @@ by-list-selected-requires t c κs =
       lists = listed .lists;
     }
 
-by-list-enum-told : (t : ℕ) → by-list-lts.Need-enum-told (by-list-calls t) (by-list-at t) by-list.Post
-by-list-enum-told t c = search needs
-
 by-list-same-length : (t : ℕ) → by-list-lts.Need-same-length (by-list-calls t) (by-list-at t) by-list.Post
 by-list-same-length t c = c .before .before .before .selected .kept .1 .1 .1 .1 .1 .1 .0 ∙ c .before .before .before .before .before .before .before .before .before .before .largest .kept .1 .1 .1 .1 .1 .1 .1 .0
 
@@ -1878,20 +1811,20 @@ by-list-returns : (t : ℕ) → by-list-lts.Need-returns (by-list-calls t) (by-l
 by-list-returns t c = (rw (c .if1 .taken) at (c .before .before .before .selected .ensures .0), c .before .before .before .selected .ensures .1)
 
 by-list-same-length-2 : (t : ℕ) → by-list-lts.Need-same-length-2 (by-list-calls t) (by-list-at t) by-list.Post
-by-list-same-length-2 t c = c .before .before .before .selected .kept .1 .1 .1 .1 .1 .1 .0 ∙ c .before .before .before .before .before .before .before .before .before .before .largest .kept .1 .1 .1 .1 .1 .1 .1 .0
+by-list-same-length-2 t c = c .before .before .before .selected2 .kept .1 .1 .1 .1 .1 .1 .0 ∙ c .before .before .before .before .before .before .before .before .before .before .largest .kept .1 .1 .1 .1 .1 .1 .1 .0
 
 by-list-returns-2 : (t : ℕ) → by-list-lts.Need-returns-2 (by-list-calls t) (by-list-at t) by-list.Post
-by-list-returns-2 t c =
-    let a = c .before .before .before .before .before .before .before .before .before .before .before .before .before .before .before .before .before .args in
-    let listed = rw (c .before .before .before .before .before .before .k .given .1) at (c .before .before .before .before .before .before .before .before .before .before .largest .ensures) in
-    let covers = listing-covers (problemOf (a .entries .now) (a .q)) (member (c .before .before .before .before .before .before .before .before .before .before .before .before .before .intersection .result)) (member (c .before .before .before .before .before .before .before .before .before .before .before .before .minus .result)) (a .work .now) (c .before .before .before .before .before .before .before .before .before .before .largest .last .1 .1 .1 .1 .1 .1 .1 .0) (base-closed t (c .before .before .before .before .before .before .before .before .before .before .before .before)) (all-parts t (c .before .before .before .before .before .before .before .before .before .before .before .before)) listed in
-    (rw (c .if1 .left) at (c .before .before .before .selected .ensures .0) covers, c .before .before .before .selected .ensures .1)
+by-list-returns-2 t c = (rw (c .if2 .taken) at (c .before .before .before .selected2 .ensures .0), c .before .before .before .selected2 .ensures .1)
 
 by-list-same-length-3 : (t : ℕ) → by-list-lts.Need-same-length-3 (by-list-calls t) (by-list-at t) by-list.Post
-by-list-same-length-3 t c = c .before .before .before .before .largest .kept .1 .1 .1 .1 .1 .1 .1 .0
+by-list-same-length-3 t c = c .before .before .before .before .before .selected .kept .1 .1 .1 .1 .1 .1 .0 ∙ c .before .before .before .before .before .before .before .before .before .before .before .before .largest .kept .1 .1 .1 .1 .1 .1 .1 .0
 
 by-list-returns-3 : (t : ℕ) → by-list-lts.Need-returns-3 (by-list-calls t) (by-list-at t) by-list.Post
-by-list-returns-3 t c = (tt, rw (c .enum-told .given .1) at (c .before .before .before .before .largest .ensures))
+by-list-returns-3 t c =
+    let a = c .before .before .before .before .before .before .before .before .before .before .before .before .before .before .before .before .before .before .before .args in
+    let listed = rw (c .before .before .before .before .before .before .before .before .k .given .1) at (c .before .before .before .before .before .before .before .before .before .before .before .before .largest .ensures) in
+    let covers = listing-covers (problemOf (a .entries .now) (a .q)) (member (c .before .before .before .before .before .before .before .before .before .before .before .before .before .before .before .intersection .result)) (member (c .before .before .before .before .before .before .before .before .before .before .before .before .before .before .minus .result)) (a .work .now) (c .before .before .before .before .before .before .before .before .before .before .before .before .largest .last .1 .1 .1 .1 .1 .1 .1 .0) (base-closed t (c .before .before .before .before .before .before .before .before .before .before .before .before .before .before)) (all-parts t (c .before .before .before .before .before .before .before .before .before .before .before .before .before .before)) listed in
+    (rw (c .before .before .if1 .left) at (c .before .before .before .before .before .selected .ensures .0) covers, c .before .before .before .before .before .selected .ensures .1)
 
 solve-by-lists-requires : (t : ℕ) → solve-lts.Need-by-lists-requires (solve-calls t) (solve-at t) solve.Post
 solve-by-lists-requires t c κs =
@@ -1984,9 +1917,6 @@ by-lists-enum-told t c = search needs
 by-lists-enum-told-2 : (t : ℕ) → by-lists-lts.Need-enum-told-2 (by-lists-calls t) (by-lists-at t) by-lists.Post
 by-lists-enum-told-2 t c = search needs
 
-by-lists-enum-told-3 : (t : ℕ) → by-lists-lts.Need-enum-told-3 (by-lists-calls t) (by-lists-at t) by-lists.Post
-by-lists-enum-told-3 t c = search needs
-
 by-lists-said-by-requires-2 : (t : ℕ) → by-lists-lts.Need-said-by-requires-2 (by-lists-calls t) (by-lists-at t) by-lists.Post
 by-lists-said-by-requires-2 t c κs =
     let start = (c .before .before .before .before .before .before .before .before .before .before) in
@@ -2000,19 +1930,16 @@ by-lists-returns : (t : ℕ) → by-lists-lts.Need-returns (by-lists-calls t) (b
 by-lists-returns t c = rw (c .enum-told .given .1) at (c .before .before .before .before .said-by .ensures)
 
 by-lists-same-length-2 : (t : ℕ) → by-lists-lts.Need-same-length-2 (by-lists-calls t) (by-lists-at t) by-lists.Post
-by-lists-same-length-2 t c = c .before .before .before .before .said-by .kept .1 .1 .1 .1 .1 .1 .0
+by-lists-same-length-2 t c = c .before .before .before .before .before .said-by .kept .1 .1 .1 .1 .1 .1 .0
 
 by-lists-returns-2 : (t : ℕ) → by-lists-lts.Need-returns-2 (by-lists-calls t) (by-lists-at t) by-lists.Post
-by-lists-returns-2 t c = rw (c .enum-told2 .given .1) at (c .before .before .before .before .said-by .ensures)
+by-lists-returns-2 t c = rw (c .before .s .given .1) at (c .before .before .before .before .before .said-by .ensures)
 
 by-lists-same-length-3 : (t : ℕ) → by-lists-lts.Need-same-length-3 (by-lists-calls t) (by-lists-at t) by-lists.Post
 by-lists-same-length-3 t c = c .before .before .said-by2 .kept .1 .1 .1 .1 .1 .1 .0 ∙ c .before .before .before .before .before .before .before .before .said-by .kept .1 .1 .1 .1 .1 .1 .0
 
 by-lists-returns-3 : (t : ℕ) → by-lists-lts.Need-returns-3 (by-lists-calls t) (by-lists-at t) by-lists.Post
 by-lists-returns-3 t c = c .before .before .said-by2 .ensures
-
-said-by-by-list-requires : (t : ℕ) → said-by-lts.Need-by-list-requires (said-by-calls t) (said-by-at t) said-by.Post
-said-by-by-list-requires t c κs = (omega (arith, c .before .before .before .before .pre .0), c .before .before .before .before .pre .1)
 
 said-by-by-columns-requires : (t : ℕ) → said-by-lts.Need-by-columns-requires (said-by-calls t) (said-by-at t) said-by.Post
 said-by-by-columns-requires t c κs = (omega (arith, c .before .before .before .before .pre .0), c .before .before .before .before .pre .1)
@@ -2021,7 +1948,7 @@ said-by-same-length : (t : ℕ) → said-by-lts.Need-same-length (said-by-calls 
 said-by-same-length t c = search needs
 
 said-by-returns : (t : ℕ) → said-by-lts.Need-returns (said-by-calls t) (said-by-at t) said-by.Post
-said-by-returns t c = c .before .before .by-list .ensures
+said-by-returns t c = c .before .before .by-core .ensures
 
 said-by-same-length-2 : (t : ℕ) → said-by-lts.Need-same-length-2 (said-by-calls t) (said-by-at t) said-by.Post
 said-by-same-length-2 t c = search needs
@@ -2057,72 +1984,37 @@ by-columns-returns t c = (rw (c .if1 .taken) at (c .before .before .before .sele
 by-columns-enum-known-s : (t : ℕ) → by-columns-lts.Need-enum-known-s (by-columns-calls t) (by-columns-at t) by-columns.Post
 by-columns-enum-known-s t c = search needs
 
-by-columns-narrowed-requires : (t : ℕ) → by-columns-lts.Need-narrowed-requires (by-columns-calls t) (by-columns-at t) by-columns.Post
-by-columns-narrowed-requires t c κs = search needs
-
--- the part of the problem
-part-fewer : (t : ℕ) (c : by-columns-lts.After-narrowed (by-columns-calls t) (by-columns-at t) by-columns.Post) → (b : Bool)
-    → Within (wanted (member (c .narrowed .result .yes)) (member (c .narrowed .result .no)) b) (wanted (member (c .before .before .before .before .before .before .before .before .before .before .args .q .yes)) (member (c .before .before .before .before .before .before .before .before .before .before .args .q .no)) b)
+-- what is wanted of the part
+part-fewer : (t : ℕ) (c : without-lts.After-narrowed (without-calls t) (without-at t) without.Post)
+    → (b : Bool) → Within (wanted (member (c .narrowed .result .yes)) (member (c .narrowed .result .no)) b) (wanted (member (c .before .before .before .args .q .yes)) (member (c .before .before .before .args .q .no)) b)
 part-fewer t c = narrowed-fewer (c .narrowed .ensures)
-
-by-columns-asking-requires : (t : ℕ) → by-columns-lts.Need-asking-requires (by-columns-calls t) (by-columns-at t) by-columns.Post
-by-columns-asking-requires t c κs =
-    let promising = c .before .before .before .before .before .before .before .before .before .before .pre .1 .promising in
-    record { few = promising .few; below = λ b i h. promising .below b i (part-fewer t c b i h) }
-
-by-columns-by-list-requires : (t : ℕ) → by-columns-lts.Need-by-list-requires (by-columns-calls t) (by-columns-at t) by-columns.Post
-by-columns-by-list-requires t c κs =
-    let start = (c .before .before .before .before .before .before .before .before .before .before .before .before) in
-    let asked = start .pre .1 in (
-      omega (arith, start .pre .0),
-      record {
-        promising = record {
-          formed = asked .promising .formed;
-          few = asked .promising .few;
-          below = λ b i h. asked .promising .below b i (part-fewer t (c .before .before) b i h);
-          within = λ i h. h;
-          shallow = λ b i h. asked .promising .shallow b i (part-fewer t (c .before .before) b i h);
-        };
-        deep = asked .deep;
-        all-asking = c .before .asking .ensures;
-        room = room-kept (c .before .before .before .before .before .before .before .before .columns .kept .1 .1 .1 .1 .1 .0) (asked .room);
-        memory = rw (c .before .before .before .before .s .given .1) at (c .before .before .before .before .before .before .before .before .columns .ensures);
-      },
-    )
 
 by-columns-enum-told : (t : ℕ) → by-columns-lts.Need-enum-told (by-columns-calls t) (by-columns-at t) by-columns.Post
 by-columns-enum-told t c = search needs
 
-by-columns-enum-told-2 : (t : ℕ) → by-columns-lts.Need-enum-told-2 (by-columns-calls t) (by-columns-at t) by-columns.Post
-by-columns-enum-told-2 t c = search needs
-
 by-columns-same-length-2 : (t : ℕ) → by-columns-lts.Need-same-length-2 (by-columns-calls t) (by-columns-at t) by-columns.Post
-by-columns-same-length-2 t c = c .before .before .before .selected .kept .1 .1 .1 .1 .1 .1 .0 ∙ c .before .before .before .before .before .before .before .before .before .before .columns .kept .1 .1 .1 .1 .1 .0
+by-columns-same-length-2 t c = c .before .before .before .without .kept .1 .1 .1 .1 .1 .0 ∙ c .before .before .before .before .before .before .before .before .before .before .columns .kept .1 .1 .1 .1 .1 .0
 
 by-columns-returns-2 : (t : ℕ) → by-columns-lts.Need-returns-2 (by-columns-calls t) (by-columns-at t) by-columns.Post
-by-columns-returns-2 t c = (tt, c .before .before .before .selected .ensures .1)
+by-columns-returns-2 t c = (c .before .before .before .without .ensures .0 (c .if2 .taken), c .before .before .before .without .ensures .1)
 
 by-columns-same-length-3 : (t : ℕ) → by-columns-lts.Need-same-length-3 (by-columns-calls t) (by-columns-at t) by-columns.Post
-by-columns-same-length-3 t c = c .before .before .before .before .by-list .kept .1 .1 .1 .1 .1 .0 ∙ c .before .before .before .before .before .before .before .before .before .before .before .before .before .columns .kept .1 .1 .1 .1 .1 .0
+by-columns-same-length-3 t c = c .before .before .before .selected .kept .1 .1 .1 .1 .1 .1 .0 ∙ c .before .before .before .before .before .before .before .before .before .before .columns .kept .1 .1 .1 .1 .1 .0
 
 by-columns-returns-3 : (t : ℕ) → by-columns-lts.Need-returns-3 (by-columns-calls t) (by-columns-at t) by-columns.Post
-by-columns-returns-3 t c =
-    let a = c .before .before .before .before .before .before .before .before .before .before .before .before .before .before .before .before .before .args in (
-      λ s. (rw (c .enum-told .given .1) at (c .before .before .before .before .by-list .ensures .0)) (narrowed-solvable (a .entries .now) (c .before .before .before .before .before .before .before .narrowed .ensures) s),
-      c .before .before .before .before .by-list .ensures .1,
-    )
+by-columns-returns-3 t c = (tt, c .before .before .before .selected .ensures .1)
 
 by-columns-same-length-4 : (t : ℕ) → by-columns-lts.Need-same-length-4 (by-columns-calls t) (by-columns-at t) by-columns.Post
-by-columns-same-length-4 t c = c .before .before .before .by-list .kept .1 .1 .1 .1 .1 .0 ∙ c .before .before .before .before .before .before .before .before .before .before .before .before .columns .kept .1 .1 .1 .1 .1 .0
+by-columns-same-length-4 t c = c .before .before .before .without .kept .1 .1 .1 .1 .1 .0 ∙ c .before .before .before .before .before .before .before .before .before .before .columns .kept .1 .1 .1 .1 .1 .0
 
 by-columns-returns-4 : (t : ℕ) → by-columns-lts.Need-returns-4 (by-columns-calls t) (by-columns-at t) by-columns.Post
-by-columns-returns-4 t c = (tt, c .before .before .before .by-list .ensures .1)
+by-columns-returns-4 t c = (tt, c .before .before .before .without .ensures .1)
 
 by-columns-same-length-5 : (t : ℕ) → by-columns-lts.Need-same-length-5 (by-columns-calls t) (by-columns-at t) by-columns.Post
 by-columns-same-length-5 t c = c .before .before .before .before .columns .kept .1 .1 .1 .1 .1 .0
 
 by-columns-returns-5 : (t : ℕ) → by-columns-lts.Need-returns-5 (by-columns-calls t) (by-columns-at t) by-columns.Post
-by-columns-returns-5 t c = (tt, rw (c .enum-told2 .given .1) at (c .before .before .before .before .columns .ensures))
+by-columns-returns-5 t c = (tt, rw (c .enum-told .given .1) at (c .before .before .before .before .columns .ensures))
 
 abbrev columns-Inv-loop : columns-lts.InvT-loop
 columns-Inv-loop entries q all depth level work₀ k₀ work k =
@@ -2160,14 +2052,11 @@ columns-column-requires t c κs =
 columns-pays-requires : (t : ℕ) → columns-lts.Need-pays-requires (columns-calls t) (columns-at t) columns.Post columns-Inv-loop columns-μ-loop
 columns-pays-requires t c κs = search needs
 
-columns-weighted-requires : (t : ℕ) → columns-lts.Need-weighted-requires (columns-calls t) (columns-at t) columns.Post columns-Inv-loop columns-μ-loop
-columns-weighted-requires t c κs = search needs
-
 columns-same-length-2 : (t : ℕ) → columns-lts.Need-same-length-2 (columns-calls t) (columns-at t) columns.Post columns-Inv-loop columns-μ-loop
-columns-same-length-2 t c = c .before .before .before .before .before .column .kept .1 .1 .1 .1 .1 .1 .0 ∙ c .before .before .before .before .before .before .before .before .before .before .before .before .weighs .kept .1 .1 .1 .1 .1 .0 ∙ c .before .before .before .before .before .before .before .before .before .before .before .before .before .before .loop .inv .1
+columns-same-length-2 t c = c .before .before .before .before .before .before .column .kept .1 .1 .1 .1 .1 .1 .0 ∙ c .before .before .before .before .before .before .before .before .before .before .before .before .before .weighs .kept .1 .1 .1 .1 .1 .0 ∙ c .before .before .before .before .before .before .before .before .before .before .before .before .before .before .before .loop .inv .1
 
 columns-returns-2 : (t : ℕ) → columns-lts.Need-returns-2 (columns-calls t) (columns-at t) columns.Post columns-Inv-loop columns-μ-loop
-columns-returns-2 t c = c .before .before .before .before .before .column .ensures .memory
+columns-returns-2 t c = c .before .before .before .before .before .before .column .ensures .memory
 
 columns-also-requires : (t : ℕ) → columns-lts.Need-also-requires (columns-calls t) (columns-at t) columns.Post columns-Inv-loop columns-μ-loop
 columns-also-requires t c κs =
@@ -2207,7 +2096,7 @@ columns-same-length-3 : (t : ℕ) → columns-lts.Need-same-length-3 (columns-ca
 columns-same-length-3 t c = c .before .before .before .before .also .kept .1 .1 .1 .1 .0 ∙ c .before .before .before .before .before .before .before .before .before .before .column .kept .1 .1 .1 .1 .1 .1 .0 ∙ c .before .before .before .before .before .before .before .before .before .before .before .before .before .before .before .before .before .weighs .kept .1 .1 .1 .1 .1 .0 ∙ c .before .before .before .before .before .before .before .before .before .before .before .before .before .before .before .before .before .before .before .loop .inv .1
 
 columns-returns-3 : (t : ℕ) → columns-lts.Need-returns-3 (columns-calls t) (columns-at t) columns.Post columns-Inv-loop columns-μ-loop
-columns-returns-3 t c = rw (c .enum-told .given .1) at (column-listed t (c .before .before .before .before))
+columns-returns-3 t c = (rw (c .enum-told .given .1) at (column-listed t (c .before .before .before .before))) .memory
 
 abbrev column-Inv-loop : column-lts.InvT-loop
 column-Inv-loop entries q all prices depth level work₀ low set₀ rest₀ work set rest =
@@ -2353,13 +2242,266 @@ column-loop-again t c =
       set .memory,
     )
 
-pub +branches+by-asking+by-columns+by-list+by-lists+can-keep+case-holds+column+columns+core-of+greedy+grown+grown-by+keeps+largest+next+opposed+refuted+relation+relations+said-by+solve+split+world-spec :
+-- the world that is found
+leaf-found : (t : ℕ) (c : leaf-lts.Else1 (leaf-calls t) (leaf-at t) leaf.Post)
+    → SatW (wideAt (c .before .before .before .before .before .before .before .args .entries .now)) (c .before .before .before .before .before .before .before .args .w)
+leaf-found t c =
+    let asked = c .before .before .before .before .before .before .before .pre .1 in
+    solved-world _ _ (ready-leaf (asked .count .ready) (asked .none)) true (rw (not-false (c .before .before .before .relations .result) (c .if1 .left)) at (c .before .before .before .relations .ensures .0))
+
+branches-enum-known-all : (t : ℕ) → branches-lts.Need-enum-known-all (branches-calls t) (branches-at t) branches.Post
+branches-enum-known-all t c = search needs
+
+by-columns-without-requires : (t : ℕ) → by-columns-lts.Need-without-requires (by-columns-calls t) (by-columns-at t) by-columns.Post
+by-columns-without-requires t c κs =
+    let asked = c .before .before .before .before .before .before .before .before .before .before .pre .1 in (
+      omega (arith, c .before .before .before .before .before .before .before .before .before .before .pre .0),
+      record {
+        promising = asked .promising;
+        deep = asked .deep;
+        room = room-kept (c .before .before .before .before .before .before .columns .kept .1 .1 .1 .1 .1 .0) (asked .room);
+        memory = rw (c .before .before .s .given .1) at (c .before .before .before .before .before .before .columns .ensures);
+      },
+    )
+
+by-core-by-list-requires : (t : ℕ) → by-core-lts.Need-by-list-requires (by-core-calls t) (by-core-at t) by-core.Post
+by-core-by-list-requires t c κs = (omega (arith, c .before .before .before .pre .0), c .before .before .before .pre .1)
+
+by-core-enum-known-s : (t : ℕ) → by-core-lts.Need-enum-known-s (by-core-calls t) (by-core-at t) by-core.Post
+by-core-enum-known-s t c = search needs
+
+by-core-minus-requires : (t : ℕ) → by-core-lts.Need-minus-requires (by-core-calls t) (by-core-at t) by-core.Post
+by-core-minus-requires t c κs = search needs
+
+by-core-is-empty-requires : (t : ℕ) → by-core-lts.Need-is-empty-requires (by-core-calls t) (by-core-at t) by-core.Post
+by-core-is-empty-requires t c κs = search needs
+
+by-core-without-requires : (t : ℕ) → by-core-lts.Need-without-requires (by-core-calls t) (by-core-at t) by-core.Post
+by-core-without-requires t c κs =
+    let asked = c .before .before .before .before .before .before .before .before .before .before .before .before .before .pre .1 in (
+      omega (arith, c .before .before .before .before .before .before .before .before .before .before .before .before .before .pre .0),
+      record {
+        promising = asked .promising;
+        deep = asked .deep;
+        room = room-kept (c .before .before .before .before .before .before .before .before .before .by-list .kept .1 .1 .1 .1 .1 .0) (asked .room);
+        memory = c .before .before .before .before .before .before .before .before .before .by-list .ensures .1;
+      },
+    )
+
+by-core-enum-told : (t : ℕ) → by-core-lts.Need-enum-told (by-core-calls t) (by-core-at t) by-core.Post
+by-core-enum-told t c = search needs
+
+by-core-enum-told-2 : (t : ℕ) → by-core-lts.Need-enum-told-2 (by-core-calls t) (by-core-at t) by-core.Post
+by-core-enum-told-2 t c = search needs
+
+by-core-same-length : (t : ℕ) → by-core-lts.Need-same-length (by-core-calls t) (by-core-at t) by-core.Post
+by-core-same-length t c = c .before .before .without .kept .1 .1 .1 .1 .1 .0 ∙ c .before .before .before .before .before .before .before .before .before .before .before .before .by-list .kept .1 .1 .1 .1 .1 .0
+
+by-core-returns : (t : ℕ) → by-core-lts.Need-returns (by-core-calls t) (by-core-at t) by-core.Post
+by-core-returns t c = (rw (c .before .before .before .before .before .before .before .before .s .given .1) at (c .before .before .before .before .before .before .before .before .before .before .before .before .by-list .ensures .0), c .before .before .without .ensures .1)
+
+by-core-same-length-2 : (t : ℕ) → by-core-lts.Need-same-length-2 (by-core-calls t) (by-core-at t) by-core.Post
+by-core-same-length-2 t c = c .before .before .before .before .before .before .before .before .by-list .kept .1 .1 .1 .1 .1 .0
+
+by-core-returns-2 : (t : ℕ) → by-core-lts.Need-returns-2 (by-core-calls t) (by-core-at t) by-core.Post
+by-core-returns-2 t c = rw (c .before .before .before .before .s .given .1) at (c .before .before .before .before .before .before .before .before .by-list .ensures)
+
+by-core-same-length-3 : (t : ℕ) → by-core-lts.Need-same-length-3 (by-core-calls t) (by-core-at t) by-core.Post
+by-core-same-length-3 t c = c .before .before .before .before .by-list .kept .1 .1 .1 .1 .1 .0
+
+by-core-returns-3 : (t : ℕ) → by-core-lts.Need-returns-3 (by-core-calls t) (by-core-at t) by-core.Post
+by-core-returns-3 t c = rw (c .enum-told .given .1) at (c .before .before .before .before .by-list .ensures)
+
+by-core-same-length-4 : (t : ℕ) → by-core-lts.Need-same-length-4 (by-core-calls t) (by-core-at t) by-core.Post
+by-core-same-length-4 t c = c .before .before .before .before .by-list .kept .1 .1 .1 .1 .1 .0
+
+by-core-returns-4 : (t : ℕ) → by-core-lts.Need-returns-4 (by-core-calls t) (by-core-at t) by-core.Post
+by-core-returns-4 t c = rw (c .enum-told2 .given .1) at (c .before .before .before .before .by-list .ensures)
+
+by-list-enum-known-k-2 : (t : ℕ) → by-list-lts.Need-enum-known-k-2 (by-list-calls t) (by-list-at t) by-list.Post
+by-list-enum-known-k-2 t c = search needs
+
+by-list-selected-requires-2 : (t : ℕ) → by-list-lts.Need-selected-requires-2 (by-list-calls t) (by-list-at t) by-list.Post
+by-list-selected-requires-2 t c κs =
+    let asked = c .before .before .before .before .before .before .before .before .before .before .before .before .before .pre .1 in
+    let listed = rw (c .before .before .k2 .given .1) at (c .before .before .before .before .before .before .largest .ensures) in
+    record {
+      problem = record { few = asked .promising .few; below = asked .promising .below };
+      all-asking = asked .all-asking;
+      deep = asked .deep;
+      room = room-kept (c .before .before .before .before .before .before .largest .kept .1 .1 .1 .1 .1 .1 .1 .0) (asked .room);
+      memory = listed .memory;
+      lists = listed .lists;
+    }
+
+by-list-same-length-4 : (t : ℕ) → by-list-lts.Need-same-length-4 (by-list-calls t) (by-list-at t) by-list.Post
+by-list-same-length-4 t c = c .before .before .before .selected2 .kept .1 .1 .1 .1 .1 .1 .0 ∙ c .before .before .before .before .before .before .before .before .before .before .largest .kept .1 .1 .1 .1 .1 .1 .1 .0
+
+by-list-returns-4 : (t : ℕ) → by-list-lts.Need-returns-4 (by-list-calls t) (by-list-at t) by-list.Post
+by-list-returns-4 t c = (tt, c .before .before .before .selected2 .ensures .1)
+
+by-lists-enum-known-s : (t : ℕ) → by-lists-lts.Need-enum-known-s (by-lists-calls t) (by-lists-at t) by-lists.Post
+by-lists-enum-known-s t c = search needs
+
+can-keep-sub-world : (t : ℕ) → can-keep-lts.Need-sub-world (can-keep-calls t) (can-keep-at t) can-keep.Post
+can-keep-sub-world t c = omega (arith, c .before .before .before .before .before .before .pre .1 .deep)
+
+can-keep-mul-world : (t : ℕ) → can-keep-lts.Need-mul-world (can-keep-calls t) (can-keep-at t) can-keep.Post
+can-keep-mul-world t c = omega (arith, room-level (c .before .before .before .before .before .before .pre .1 .room), c .before .before .before .before .before .before .good .1 .1 .1 .1 .1 .0)
+
+can-keep-sub-world-2 : (t : ℕ) → can-keep-lts.Need-sub-world-2 (can-keep-calls t) (can-keep-at t) can-keep.Post
+can-keep-sub-world-2 t c = omega (arith, room-level (c .before .before .before .before .before .before .pre .1 .room))
+
+can-keep-part-world-start : (t : ℕ) → can-keep-lts.Need-part-world-start (can-keep-calls t) (can-keep-at t) can-keep.Post
+can-keep-part-world-start t c = room-level (c .before .before .before .before .before .before .pre .1 .room)
+
+can-keep-part-world-end : (t : ℕ) → can-keep-lts.Need-part-world-end (can-keep-calls t) (can-keep-at t) can-keep.Post
+can-keep-part-world-end t c = search needs
+
+can-keep-world-requires : (t : ℕ) → can-keep-lts.Need-world-requires (can-keep-calls t) (can-keep-at t) can-keep.Post
+can-keep-world-requires t c κs =
+    let start = c .before .before .before .before .before .before .before in
+    let a = start .args in
+    let asked = start .pre .1 in (
+      omega (arith, start .pre .0, asked .deep),
+      record {
+        ready = made t (c .before .before) .ready;
+        small = omega arith;
+        room = room-kept (length-behind (a .work .now) (a .level)) (room-below (asked .room) (asked .deep));
+        memory = memory-below (wideAt (a .entries .now)) (a .work .now) (a .depth) (a .level) (asked .deep) (room-level (asked .room)) (asked .memory);
+      },
+    )
+
+columns-blamed-requires : (t : ℕ) → columns-lts.Need-blamed-requires (columns-calls t) (columns-at t) columns.Post columns-Inv-loop columns-μ-loop
+columns-blamed-requires t c κs = record { few = c .before .before .before .before .before .before .before .before .before .before .before .before .before .before .before .before .before .pre .1 .promising .few; below = c .before .before .before .before .before .before .before .before .before .before .before .before .before .before .before .before .before .pre .1 .promising .below }
+
+leaf-relations-requires : (t : ℕ) → leaf-lts.Need-relations-requires (leaf-calls t) (leaf-at t) leaf.Post
+leaf-relations-requires t c κs = (omega (arith, c .before .before .before .pre .0), c .before .before .before .pre .1 .count)
+
+leaf-same-length : (t : ℕ) → leaf-lts.Need-same-length (leaf-calls t) (leaf-at t) leaf.Post
+leaf-same-length t c = search needs
+
+leaf-returns : (t : ℕ) → leaf-lts.Need-returns (leaf-calls t) (leaf-at t) leaf.Post
+leaf-returns t c = (rw (not-true (c .before .before .before .relations .result) (c .if1 .taken)) at (c .before .before .before .relations .ensures .0), c .before .before .before .relations .ensures .1)
+
+leaf-learn-world-requires : (t : ℕ) → leaf-lts.Need-learn-world-requires (leaf-calls t) (leaf-at t) leaf.Post
+leaf-learn-world-requires t c κs = record { found = leaf-found t (c .before); room = room-kept (c .before .before .before .before .relations .kept .1 .1 .1 .1 .0) (c .before .before .before .before .before .before .before .before .pre .1 .count .room); memory = c .before .before .before .before .relations .ensures .1 }
+
+leaf-same-length-2 : (t : ℕ) → leaf-lts.Need-same-length-2 (leaf-calls t) (leaf-at t) leaf.Post
+leaf-same-length-2 t c = search needs
+
+leaf-returns-2 : (t : ℕ) → leaf-lts.Need-returns-2 (leaf-calls t) (leaf-at t) leaf.Post
+leaf-returns-2 t c = (leaf-found t (c .before .before .before .before), c .before .before .learn-world .ensures)
+
+opposed-narrowed-requires : (t : ℕ) → opposed-lts.Need-narrowed-requires (opposed-calls t) (opposed-at t) opposed.Post opposed-Inv-loop opposed-μ-loop
+opposed-narrowed-requires t c κs = search needs
+
+opposed-learn-refuted-requires : (t : ℕ) → opposed-lts.Need-learn-refuted-requires (opposed-calls t) (opposed-at t) opposed.Post opposed-Inv-loop opposed-μ-loop
+opposed-learn-refuted-requires t c κs =
+    let start = c .before .before .before .before .before .before .before .before .before .before .before .before .before .before .before .before .before .before .before .before .before .before .before .before .before in
+    let promising = start .pre .1 .promising in
+    record {
+      none = pair-alone (start .args .entries .now) (c .before .narrowed .ensures) _ _ _ _ (c .before .before .before .before .before .before .before .before .pair .ensures) (c .before .before .before .before .before .before .before .union .ensures) (kept-closed t (c .before .before .before .before .before .before .before .before .before .before .before .before .before .before .before .before .before .before .before .before .before)) (c .before .before .before .before .before .before .before .before .before .before .exceeds .ensures (c .before .before .before .before .before .before .before .before .before .if1 .taken)) (rw (not-true (c .before .before .before .before .before .keeps .result) (c .before .before .if2 .taken)) at (c .before .before .before .before .before .keeps .ensures .answers));
+      formed = promising .formed;
+      small = record { few = promising .few; below = λ b i h. promising .below b i (narrowed-fewer (c .before .narrowed .ensures) b i h) };
+      room = room-kept (c .before .before .before .before .before .keeps .kept .1 .1 .1 .1 .1 .0 ∙ c .before .before .before .before .before .before .before .before .before .before .before .before .before .before .before .before .before .before .before .before .loop .inv .2) (start .pre .1 .room);
+      memory = c .before .before .before .before .before .keeps .ensures .memory;
+    }
+
+said-by-by-core-requires : (t : ℕ) → said-by-lts.Need-by-core-requires (said-by-calls t) (said-by-at t) said-by.Post
+said-by-by-core-requires t c κs = (omega (arith, c .before .before .before .before .pre .0), c .before .before .before .before .pre .1)
+
+split-leaf-requires : (t : ℕ) → split-lts.Need-leaf-requires (split-calls t) (split-at t) split.Post
+split-leaf-requires t c κs =
+    let start = c .before .before .before .before .before .before .before in
+    let asked = start .pre .1 in
+    (omega (arith, start .pre .0), record { count = record { ready = ready-wider (asked .ready) (asked .small); room = asked .room; memory = asked .memory }; none = rw (c .before .enum-told .given .1) at (c .before .before .before .highest .ensures) })
+
+without-narrowed-requires : (t : ℕ) → without-lts.Need-narrowed-requires (without-calls t) (without-at t) without.Post
+without-narrowed-requires t c κs = search needs
+
+without-asking-requires : (t : ℕ) → without-lts.Need-asking-requires (without-calls t) (without-at t) without.Post
+without-asking-requires t c κs =
+    let promising = c .before .before .before .pre .1 .promising in
+    record { few = promising .few; below = λ b i h. promising .below b i (part-fewer t (c) b i h) }
+
+without-by-list-requires : (t : ℕ) → without-lts.Need-by-list-requires (without-calls t) (without-at t) without.Post
+without-by-list-requires t c κs =
+    let start = c .before .before .before .before .before in
+    let asked = start .pre .1 in (
+      omega (arith, start .pre .0),
+      record {
+        promising = record {
+          formed = asked .promising .formed;
+          few = asked .promising .few;
+          below = λ b i h. asked .promising .below b i (part-fewer t (c .before .before) b i h);
+          within = λ i h. h;
+          shallow = λ b i h. asked .promising .shallow b i (part-fewer t (c .before .before) b i h);
+        };
+        deep = asked .deep;
+        all-asking = c .before .asking .ensures;
+        room = asked .room;
+        memory = asked .memory;
+      },
+    )
+
+without-enum-told : (t : ℕ) → without-lts.Need-enum-told (without-calls t) (without-at t) without.Post
+without-enum-told t c = search needs
+
+without-learn-refuted-requires : (t : ℕ) → without-lts.Need-learn-refuted-requires (without-calls t) (without-at t) without.Post
+without-learn-refuted-requires t c κs =
+    let asked = c .before .before .before .before .before .before .before .before .before .before .before .pre .1 in
+    record {
+      none = rw (c .before .enum-told .given .1) at (c .before .before .before .before .before .by-list .ensures .0);
+      formed = asked .promising .formed;
+      small = record { few = asked .promising .few; below = λ b i h. asked .promising .below b i (part-fewer t (c .before .before .before .before .before .before .before .before) b i h) };
+      room = room-kept (c .before .before .before .before .before .by-list .kept .1 .1 .1 .1 .1 .0) (asked .room);
+      memory = c .before .before .before .before .before .by-list .ensures .1;
+    }
+
+without-same-length : (t : ℕ) → without-lts.Need-same-length (without-calls t) (without-at t) without.Post
+without-same-length t c = c .before .before .learn-refuted .kept .1 .1 .1 .1 .0 ∙ c .before .before .before .before .before .before .before .before .by-list .kept .1 .1 .1 .1 .1 .0
+
+without-returns : (t : ℕ) → without-lts.Need-returns (without-calls t) (without-at t) without.Post
+without-returns t c = (λ e s. (rw (c .before .before .before .before .enum-told .given .1) at (c .before .before .before .before .before .before .before .before .by-list .ensures .0)) (narrowed-solvable (c .before .before .before .before .before .before .before .before .before .before .before .before .before .before .args .entries .now) (c .before .before .before .before .before .before .before .before .before .before .before .narrowed .ensures) s), c .before .before .learn-refuted .ensures .memory)
+
+without-same-length-2 : (t : ℕ) → without-lts.Need-same-length-2 (without-calls t) (without-at t) without.Post
+without-same-length-2 t c = c .before .before .before .by-list .kept .1 .1 .1 .1 .1 .0
+
+without-returns-2 : (t : ℕ) → without-lts.Need-returns-2 (without-calls t) (without-at t) without.Post
+without-returns-2 t c = (λ e. absurd (false≢true e), c .before .before .before .by-list .ensures .1)
+
+world-same-length-2 : (t : ℕ) → world-lts.Need-same-length-2 (world-calls t) (world-at t) world.Post
+world-same-length-2 t c = search needs
+
+by-list-blamed-behind-requires : (t : ℕ) → by-list-lts.Need-blamed-behind-requires (by-list-calls t) (by-list-at t) by-list.Post
+by-list-blamed-behind-requires t c κs =
+    let a = c .before .before .before .before .before .before .before .before .before .before .before .before .before .before .before .before .before .before .args in
+    let asked = c .before .before .before .before .before .before .before .before .before .before .before .before .before .before .before .before .before .before .pre .1 in (
+      record { few = asked .promising .few; below = asked .promising .below },
+      room-placed (problemOf (a .entries .now) (a .q)) (asked .promising .few) (room-kept (c .before .before .before .before .selected .kept .1 .1 .1 .1 .1 .1 .0 ∙ c .before .before .before .before .before .before .before .before .before .before .before .largest .kept .1 .1 .1 .1 .1 .1 .1 .0) (asked .room)) ((rw (c .before .before .before .before .before .before .before .k .given .1) at (c .before .before .before .before .before .before .before .before .before .before .before .largest .ensures)) .lists .some),
+    )
+
+columns-weighted-requires : (t : ℕ) → columns-lts.Need-weighted-requires (columns-calls t) (columns-at t) columns.Post columns-Inv-loop columns-μ-loop
+columns-weighted-requires t c κs = search needs
+
+opposed-closed-requires : (t : ℕ) → opposed-lts.Need-closed-requires (opposed-calls t) (opposed-at t) opposed.Post opposed-Inv-loop opposed-μ-loop
+opposed-closed-requires t c κs = record { few = c .before .before .pre .1 .promising .few; below = c .before .before .pre .1 .promising .below }
+
+opposed-intersection-requires : (t : ℕ) → opposed-lts.Need-intersection-requires (opposed-calls t) (opposed-at t) opposed.Post opposed-Inv-loop opposed-μ-loop
+opposed-intersection-requires t c κs = search needs
+
+opposed-union-requires : (t : ℕ) → opposed-lts.Need-union-requires (opposed-calls t) (opposed-at t) opposed.Post opposed-Inv-loop opposed-μ-loop
+opposed-union-requires t c κs = search needs
+
+pub +branches+by-asking+by-columns+by-core+by-list+by-lists+can-keep+case-holds+column+columns+core-of+greedy+grown+grown-by+keeps+largest+leaf+opposed+refuted+relation+relations+said-by+solve+split+without+world-spec :
     {M : Type 1} → statement M
-+branches+by-asking+by-columns+by-list+by-lists+can-keep+case-holds+column+columns+core-of+greedy+grown+grown-by+keeps+largest+next+opposed+refuted+relation+relations+said-by+solve+split+world-spec =
++branches+by-asking+by-columns+by-core+by-list+by-lists+can-keep+case-holds+column+columns+core-of+greedy+grown+grown-by+keeps+largest+leaf+opposed+refuted+relation+relations+said-by+solve+split+without+world-spec =
     close
     μ-branches
     μ-by-asking
     μ-by-columns
+    μ-by-core
     μ-by-list
     μ-by-lists
     μ-can-keep
@@ -2372,7 +2514,7 @@ pub +branches+by-asking+by-columns+by-list+by-lists+can-keep+case-holds+column+c
     μ-grown-by
     μ-keeps
     μ-largest
-    μ-next
+    μ-leaf
     μ-opposed
     μ-refuted
     μ-relation
@@ -2380,6 +2522,7 @@ pub +branches+by-asking+by-columns+by-list+by-lists+can-keep+case-holds+column+c
     μ-said-by
     μ-solve
     μ-split
+    μ-without
     μ-world
     (λ t. branches-lts.spec (branches-calls t)
     (branches-at t)
@@ -2394,7 +2537,7 @@ pub +branches+by-asking+by-columns+by-list+by-lists+can-keep+case-holds+column+c
     (branches-with-requires t)
     (branches-without-requires-2 t)
     (branches-branches-requires t)
-    (branches-enum-told-2 t)
+    (branches-enum-known-all t)
     (branches-same-length t)
     (branches-returns-2 t)
     (branches-same-length-2 t)
@@ -2434,19 +2577,34 @@ pub +branches+by-asking+by-columns+by-list+by-lists+can-keep+case-holds+column+c
     (by-columns-same-length t)
     (by-columns-returns t)
     (by-columns-enum-known-s t)
-    (by-columns-narrowed-requires t)
-    (by-columns-asking-requires t)
-    (by-columns-by-list-requires t)
-    (by-columns-enum-told t)
-    (by-columns-enum-told-2 t)
+    (by-columns-without-requires t)
     (by-columns-same-length-2 t)
     (by-columns-returns-2 t)
+    (by-columns-enum-told t)
     (by-columns-same-length-3 t)
     (by-columns-returns-3 t)
     (by-columns-same-length-4 t)
     (by-columns-returns-4 t)
     (by-columns-same-length-5 t)
     (by-columns-returns-5 t))
+    (λ t. by-core-lts.spec (by-core-calls t)
+    (by-core-at t)
+    by-core.Post
+    (by-core-by-list-requires t)
+    (by-core-enum-known-s t)
+    (by-core-minus-requires t)
+    (by-core-is-empty-requires t)
+    (by-core-without-requires t)
+    (by-core-enum-told t)
+    (by-core-enum-told-2 t)
+    (by-core-same-length t)
+    (by-core-returns t)
+    (by-core-same-length-2 t)
+    (by-core-returns-2 t)
+    (by-core-same-length-3 t)
+    (by-core-returns-3 t)
+    (by-core-same-length-4 t)
+    (by-core-returns-4 t))
     (λ t. by-list-lts.spec (by-list-calls t)
     (by-list-at t)
     by-list.Post
@@ -2456,21 +2614,25 @@ pub +branches+by-asking+by-columns+by-list+by-lists+can-keep+case-holds+column+c
     (by-list-largest-requires t)
     (by-list-enum-known-k t)
     (by-list-selected-requires t)
-    (by-list-enum-told t)
     (by-list-same-length t)
     (by-list-returns t)
+    (by-list-blamed-behind-requires t)
+    (by-list-enum-known-k-2 t)
+    (by-list-selected-requires-2 t)
     (by-list-same-length-2 t)
     (by-list-returns-2 t)
     (by-list-same-length-3 t)
-    (by-list-returns-3 t))
+    (by-list-returns-3 t)
+    (by-list-same-length-4 t)
+    (by-list-returns-4 t))
     (λ t. by-lists-lts.spec (by-lists-calls t)
     (by-lists-at t)
     by-lists.Post
     (by-lists-is-short-requires t)
     (by-lists-said-by-requires t)
     (by-lists-enum-told t)
+    (by-lists-enum-known-s t)
     (by-lists-enum-told-2 t)
-    (by-lists-enum-told-3 t)
     (by-lists-said-by-requires-2 t)
     (by-lists-same-length t)
     (by-lists-returns t)
@@ -2484,7 +2646,12 @@ pub +branches+by-asking+by-columns+by-list+by-lists+can-keep+case-holds+column+c
     (can-keep-sub-promised t)
     (can-keep-promised-requires t)
     (can-keep-enum-known-v t)
-    (can-keep-next-requires t)
+    (can-keep-sub-world t)
+    (can-keep-mul-world t)
+    (can-keep-sub-world-2 t)
+    (can-keep-part-world-start t)
+    (can-keep-part-world-end t)
+    (can-keep-world-requires t)
     (can-keep-enum-told t)
     (can-keep-same-length t)
     (can-keep-returns t)
@@ -2539,6 +2706,7 @@ pub +branches+by-asking+by-columns+by-list+by-lists+can-keep+case-holds+column+c
     (columns-column-requires t)
     (columns-pays-requires t)
     (columns-weighted-requires t)
+    (columns-blamed-requires t)
     (columns-same-length-2 t)
     (columns-returns-2 t)
     (columns-also-requires t)
@@ -2652,31 +2820,22 @@ pub +branches+by-asking+by-columns+by-list+by-lists+can-keep+case-holds+column+c
     (largest-branches-requires t)
     (largest-same-length-3 t)
     (largest-returns-4 t))
-    (λ t. next-lts.spec (next-calls t)
-    (next-at t)
-    next.Post
-    (next-add-from t)
-    (next-mul-from t)
-    (next-recall-requires t)
-    (next-enum-known-known t)
-    (next-same-length t)
-    (next-returns t)
-    (next-enum-told t)
-    (next-empty-requires t)
-    (next-sub-world t)
-    (next-mul-world t)
-    (next-sub-world-2 t)
-    (next-part-world-start t)
-    (next-part-world-end t)
-    (next-world-requires t)
-    (next-remember-requires t)
-    (next-same-length-2 t)
-    (next-returns-2 t))
+    (λ t. leaf-lts.spec (leaf-calls t)
+    (leaf-at t)
+    leaf.Post
+    (leaf-relations-requires t)
+    (leaf-same-length t)
+    (leaf-returns t)
+    (leaf-learn-world-requires t)
+    (leaf-same-length-2 t)
+    (leaf-returns-2 t))
     (λ t. opposed-lts.spec (opposed-calls t)
     (opposed-at t)
     opposed.Post
     opposed-Inv-loop
     opposed-μ-loop
+    (opposed-closed-requires t)
+    (opposed-intersection-requires t)
     (opposed-loop-holds t)
     (opposed-highest-requires t)
     (opposed-enum-known-i t)
@@ -2688,7 +2847,10 @@ pub +branches+by-asking+by-columns+by-list+by-lists+can-keep+case-holds+column+c
     (opposed-without-requires t)
     (opposed-exceeds-requires t)
     (opposed-pair-requires t)
+    (opposed-union-requires t)
     (opposed-keeps-requires t)
+    (opposed-narrowed-requires t)
+    (opposed-learn-refuted-requires t)
     (opposed-same-length-2 t)
     (opposed-returns-2 t)
     (opposed-loop-less t)
@@ -2702,7 +2864,6 @@ pub +branches+by-asking+by-columns+by-list+by-lists+can-keep+case-holds+column+c
     (λ t. refuted-lts.spec (refuted-calls t)
     (refuted-at t)
     refuted.Post
-    (refuted-is-empty-requires t)
     (refuted-returns t)
     (refuted-relations-requires t)
     (refuted-same-length t)
@@ -2745,7 +2906,7 @@ pub +branches+by-asking+by-columns+by-list+by-lists+can-keep+case-holds+column+c
     (λ t. said-by-lts.spec (said-by-calls t)
     (said-by-at t)
     said-by.Post
-    (said-by-by-list-requires t)
+    (said-by-by-core-requires t)
     (said-by-by-columns-requires t)
     (said-by-same-length t)
     (said-by-returns t)
@@ -2780,11 +2941,9 @@ pub +branches+by-asking+by-columns+by-list+by-lists+can-keep+case-holds+column+c
     (split-highest-requires t)
     (split-enum-known-d t)
     (split-enum-told t)
-    (split-relations-requires t)
+    (split-leaf-requires t)
     (split-same-length t)
     (split-returns t)
-    (split-counted-requires t)
-    (split-minus-requires t)
     (split-refuted-requires t)
     (split-same-length-2 t)
     (split-returns-2 t)
@@ -2794,7 +2953,20 @@ pub +branches+by-asking+by-columns+by-list+by-lists+can-keep+case-holds+column+c
     (split-case-holds-requires-2 t)
     (split-same-length-4 t)
     (split-returns-4 t))
-    λ t. world-lts.spec (world-calls t)
+    (λ t. without-lts.spec (without-calls t)
+    (without-at t)
+    without.Post
+    (without-narrowed-requires t)
+    (without-asking-requires t)
+    (without-by-list-requires t)
+    (without-enum-told t)
+    (without-learn-refuted-requires t)
+    (without-same-length t)
+    (without-returns t)
+    (without-same-length-2 t)
+    (without-returns-2 t))
+    λ t. world-lts.spec
+    (force-reads.Asked, force-reads.Learnt, split-below t, split.Post)
     (world-at t)
     world.Post
     (world-force-requires t)
@@ -2803,4 +2975,5 @@ pub +branches+by-asking+by-columns+by-list+by-lists+can-keep+case-holds+column+c
     (world-enum-told t)
     (world-same-length t)
     (world-returns t)
+    (world-same-length-2 t)
     (world-returns-2 t)
