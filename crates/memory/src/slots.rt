@@ -39,7 +39,7 @@ pub fn slots_in(words: usize, from: usize) -> usize
 pub fn learnt_in(slots: usize) -> usize
     ensures { λ r. ⌜ 8 * r ≤ slots ⌝ }
 {
-    fewer(slots / 8, 64)
+    fewer(slots / 8, 256)
 }
 
 // Whether nothing was stored in a slot.

@@ -1,7 +1,7 @@
 -- How the largest sets of promises come to be listed. Why none is missed: where the promises of a set cannot all be kept, a set that can be kept
 -- leaves out some member of a core of it; it leaves out the first member, or has that and leaves out another one.
 use mathlib.Core.Path.{_≡_, refl, sym, ap, _∙_}
-use mathlib.Core.Logic.{⊎-elim, by-cases}
+use mathlib.Core.Logic.{inl, inr, ⊎-elim, by-cases}
 use mathlib.Core.Bool.{Bool, true, false, not, _||_, false≢true}
 use mathlib.Core.List.{List, _++_}
 use Prim.Native.Nat.{ℕ, suc, _+_, _-_, _*_, _<_, _≤_, zero-le}
@@ -28,9 +28,11 @@ use Rattle.counting.specs.Question.{problemOf, NoNeed, Closed}
 use Rattle.listed.specs.Codes.{codesFrom, Inside}
 use Rattle.listed.proofs.Codes.{codes-alike}
 use Rattle.selection.specs.Relaxing.{SameBelow}
+use Rattle.satisfy.specs.declared.listing.Guess.{Guess}
 use Rattle.satisfy.specs.declared.listing.Listing.{Listing}
 use Rattle.satisfy.specs.Asking.{listRoom, Roomy, Remembers}
-use Rattle.satisfy.specs.Listing.{Placed, listOf, AlsoIs, Unkept, Reaches, Lists, ListedMore, ListingIs, NarrowedIs}
+use Rattle.satisfy.specs.Greedy.{FitIfAny}
+use Rattle.satisfy.specs.Listing.{Placed, listOf, AlsoIs, AlsoNew, Unkept, Reaches, Lists, FitList, ListedMore, ListingIs, GuessIs, NarrowedIs}
 use Rattle.satisfy.proofs.Worlds.{room-level}
 
 -- ---- sets
@@ -143,6 +145,21 @@ module _ (P : Problem) where
       memory = memory-moved (P .entry) after (suc depth * level) memory (λ i. appended .elsewhere (suc depth * level + i) (omega (arith, suc-mul depth level)));
     })
     listing-also before after b room lists memory fit above (Listing.Full all) (is, same) = rw (is, same) (record { lists = lists; memory = memory })
+
+-- whatever is guessed, the answers kept are right
+pub guess-memory : (P : Problem) (depth level : ℕ) (after : List ℕ) (g : Guess) → GuessIs P depth level after g → Remembers (P .entry) depth level after
+guess-memory P depth level after (Guess.Among k) list = list .memory
+guess-memory P depth level after (Guess.Without s) memory = memory
+guess-memory P depth level after Guess.Nothing memory = memory
+
+-- one set more is listed, if it is new
+pub listed-new : (P : Problem) {k : ℕ} (depth level : ℕ) (before after : List ℕ) (set : Set) → listRoom (P .n) ≤ level → Lists P k level before
+    → Remembers (P .entry) depth level before → FitIfAny P set → (r : ℕ) → AlsoNew (P .n) level k set before after r → FitList P r depth level after
+listed-new P depth level before after set room lists memory fit r (inl (is, some, appended, filled)) =
+    let more = listing-also P nothing nothing depth level before after (code set) room lists memory
+    (⊎-elim (λ (none : member set ≡ nothing). absurd (filled none)) (λ (f : Fit P (code set)). f) fit) (λ i h. absurd (false≢true h)) (Listing.Room r) (is, some, appended) in
+    record { lists = more .lists; memory = more .memory }
+listed-new P depth level before after set room lists memory fit r (inr (is, same)) = rw (is, same) (record { lists = lists; memory = memory })
 
 -- a row that serves a need has one of what is looked for
 pub reaches-none : (P : Problem) (s : Set) (low high : ℕ → Bool) (list : List ℕ) → member s ≡ high → NoNeed P s (λ j. j < P .n) → Reaches P low high list

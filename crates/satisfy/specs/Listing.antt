@@ -1,11 +1,12 @@
 -- Lists of sets of promises that can be kept, in the last words of a level: all the largest, or some.
 use mathlib.Core.Path.{_≡_}
+use mathlib.Core.Logic.{_⊎_}
 use mathlib.Core.Bool.{Bool, true}
 use mathlib.Core.List.{List}
 use Prim.Native.Nat.{ℕ, suc, _-_, _<_, _≤_}
 use lib.ListN.{length, take}
 use Rattle.sets.specs.declared.Set.{Set}
-use Rattle.sets.specs.Set.{member, both, either, Within}
+use Rattle.sets.specs.Set.{member, nothing, code, both, either, Within}
 use Rattle.tableau.specs.Counting.{Row}
 use Rattle.tableau.specs.Search.{Problem, asking, Asks, FitRow, Fit, Solvable}
 use Rattle.tableau.specs.Listed.{In}
@@ -16,7 +17,7 @@ use Rattle.satisfy.specs.declared.listing.Guess.{Guess}
 use Rattle.satisfy.specs.declared.listing.Listing.{Listing}
 use Rattle.satisfy.specs.declared.listing.Said.{Said}
 use Rattle.satisfy.specs.Promise.{Promising}
-use Rattle.satisfy.specs.Asking.{listRoom, Roomy, Remembers}
+use Rattle.satisfy.specs.Asking.{listRoom, Roomy, Remembers, ProblemAsked}
 
 -- k codes stand in the room for the list, at the end of the level
 pub record Placed (n k level words : ℕ) : Type 0 where
@@ -33,6 +34,11 @@ listOf n level work k = codesFrom work (level - listRoom n) k
 abbrev pub AlsoIs : (n level k b : ℕ) (before after : List ℕ) → Listing → Type 0
 AlsoIs n level k b before after (Listing.Room more) = (more ≡ suc k) × (suc k ≤ listRoom n) × Appended before (level - listRoom n) k b after
 AlsoIs n level k b before after (Listing.Full all) = (all ≡ k) × (after ≡ before)
+
+-- the set is listed besides, and is not empty; or all is as before
+abbrev pub AlsoNew : (n level k : ℕ) (set : Set) (before after : List ℕ) (r : ℕ) → Type 0
+AlsoNew n level k set before after r =
+    ((r ≡ suc k) × (suc k ≤ listRoom n) × Appended before (level - listRoom n) k (code set) after × (member set ≡ nothing → ⊥)) ⊎ ((r ≡ k) × (after ≡ before))
 
 module _ (P : Problem) where
   -- no row that may stand in a solution promises all of p
@@ -102,6 +108,11 @@ module _ (P : Problem) where
     pub deep : 0 < depth
     pub room : Roomy (P .entry) (P .n) depth level (length work)
     pub memory : Remembers (P .entry) depth level work
+    pub lists : Lists k level work
+
+  -- more sets are to be listed, behind k others
+  pub record EnrichAsked (all : Set) (k depth level : ℕ) (work : List ℕ) : Type 0 where
+    pub problem : ProblemAsked P all depth level work
     pub lists : Lists k level work
 
   -- weights are asked for that refute k listed sets

@@ -10,7 +10,7 @@ ghost use Rattle.wide.specs.Wide.{wideAt};
 ghost use Rattle.counting.specs.Question.{problemOf, Small};
 ghost use Rattle.selection.specs.Selecting.{SolvedIs};
 ghost use Rattle.satisfy.specs.Asking.{listRoom, Remembers};
-ghost use Rattle.satisfy.specs.Listing.{Placed, listOf, AlsoIs, SelectAsked, WeighAsked, FitList, NarrowedIs};
+ghost use Rattle.satisfy.specs.Listing.{Placed, listOf, AlsoIs, AlsoNew, SelectAsked, WeighAsked, FitList, NarrowedIs};
 use counting::bounds::unmet;
 use counting::question::Question;
 use counting::question::closed;
@@ -79,6 +79,23 @@ pub fn also(entries: &[u64], set: Set, k: usize, level: usize, work: &mut [u64])
     Listing::Room(k + 1)
 }
 
+// Lists the set too, if it is not empty and not inside a listed one, and there is room; how many are listed then.
+pub fn also_new(entries: &[u64], set: Set, k: usize, level: usize, work: &mut [u64]) -> usize
+    requires { ⌜ Placed (length (now entries)) k level (length (now work)) ⌝ }
+    ensures { λ r. ⌜ AlsoNew (length (now (entries .entry))) level k set (now (work .entry)) (now (work .exit)) r ⌝ }
+{
+    if set.is_empty() {
+        return k;
+    }
+    if known(entries, set, k, level, work) {
+        return k;
+    }
+    match also(entries, set, k, level, work) {
+        Listing::Room(more) => more,
+        Listing::Full(all) => all,
+    }
+}
+
 // Whether k listed sets give a solution.
 pub fn selected(
     entries: &[u64],
@@ -108,7 +125,7 @@ pub fn highest_of(set: Set) -> Set
     set.minus(set.without(i))
 }
 
-// Whether weights are found that refute that k listed sets give a solution: they stand in the words behind the list then.
+// The divisor of weights that refute that k listed sets give a solution, or 0: they stand in the words behind the list then.
 pub fn weighs(
     entries: &[u64],
     q: Question,
@@ -116,7 +133,7 @@ pub fn weighs(
     depth: usize,
     level: usize,
     work: &mut [u64],
-) -> bool
+) -> u64
     requires { ⌜ WeighAsked (problemOf (now entries) q) k depth level (now work) ⌝ }
     ensures { λ r. ⌜ FitList (problemOf (now (entries .entry)) q) k depth level (now (work .exit)) ⌝ }
 {
@@ -126,11 +143,18 @@ pub fn weighs(
 }
 
 // What they are worth. Nothing is promised of that: it says what to try next.
-pub fn prices_behind(entries: &[u64], q: Question, k: usize, level: usize, work: &[u64]) -> Prices
+pub fn prices_behind(
+    entries: &[u64],
+    q: Question,
+    k: usize,
+    r: u64,
+    level: usize,
+    work: &[u64],
+) -> Prices
     requires { ⌜ Placed (length (now entries)) k level (length (now work)) ⌝ }
 {
     let at = place(entries.len(), level);
-    prices_from(entries, q, work, at + k)
+    prices_from(entries, q, work, at + k, r)
 }
 
 // The entries that are guessed to have no solution: these, and the limits that allow none, which every listed set promises.

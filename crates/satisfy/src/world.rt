@@ -5,7 +5,7 @@ ghost use mathlib.Core.Path.{_≡_};
 ghost use mathlib.Core.Bool.{true};
 ghost use Prim.Native.Nat.{_-_};
 ghost use lib.ListN.{length};
-ghost use Rattle.sets.specs.Set.{member, either};
+ghost use Rattle.sets.specs.Set.{member, either, Within};
 ghost use Rattle.wide.specs.Wide.{wideAt};
 ghost use Rattle.tableau.specs.Wants.{Answers};
 ghost use Rattle.tableau.specs.Search.{Solvable};
@@ -13,7 +13,7 @@ ghost use Rattle.counting.specs.Question.{problemOf};
 ghost use Rattle.satisfy.specs.World.{SatW};
 ghost use Rattle.satisfy.specs.Asking.{WorldAsked, CaseAsked, CaseAnswers, CountAsked, CountAnswers, LeafAsked, RelationAsked, ProblemAsked, PromisesAsked, WithoutAsked, Kept, Opposed, Remembers};
 ghost use Rattle.satisfy.specs.Greedy.{GrowAsked, GrownIs, GreedyIs};
-ghost use Rattle.satisfy.specs.Listing.{ListAsked, BranchAsked, ListingIs, CoreAsked, CoreIs, SaidIs, GuessIs};
+ghost use Rattle.satisfy.specs.Listing.{ListAsked, BranchAsked, ListingIs, CoreAsked, CoreIs, EnrichAsked, FitList, SaidIs, GuessIs};
 use crate::branch::branch;
 use crate::force::force;
 use crate::learning::learn_refuted;
@@ -22,6 +22,7 @@ use crate::listing::Guess;
 use crate::listing::Listing;
 use crate::listing::Said;
 use crate::listing::also;
+use crate::listing::also_new;
 use crate::listing::blamed;
 use crate::listing::blamed_behind;
 use crate::listing::highest_of;
@@ -344,7 +345,7 @@ fn by_columns(
             if selected(entries, q, all, k, depth, level, work) {
                 return Said::Yes;
             }
-            Said::Nothing
+            by_more(entries, q, all, depth, level, work)
         }
         Guess::Without(s) => {
             if without(entries, q, s, depth, level, work) {
@@ -354,6 +355,77 @@ fn by_columns(
         }
         Guess::Nothing => Said::Nothing,
     }
+}
+
+// What more sets say, where those that weights ask for give no solution and no weights refute them: besides those, one that is
+// grown from each promise. They are listed anew, since the search for a solution has taken up the words behind the list.
+fn by_more(
+    entries: &[u64],
+    q: Question,
+    all: Set,
+    depth: usize,
+    level: usize,
+    work: &mut [u64],
+) -> Said
+    requires { ⌜ ProblemAsked (problemOf (now entries) q) all depth level (now work) ⌝ }
+    ensures { λ r. ⌜ SaidIs (problemOf (now (entries .entry)) q) r × Remembers (wideAt (now (entries .entry))) depth level (now (work .exit)) ⌝ }
+{
+    let Guess::Among(k) = columns(entries, q, all, depth, level, work) else {
+        return Said::Nothing;
+    };
+    let listed = enriched(entries, q, all, k, depth, level, work);
+    if selected(entries, q, all, listed, depth, level, work) {
+        return Said::Yes;
+    }
+    Said::Nothing
+}
+
+// Lists more sets behind k others, one that is grown from each promise, and tells how many are listed then.
+fn enriched(
+    entries: &[u64],
+    q: Question,
+    all: Set,
+    k: usize,
+    depth: usize,
+    level: usize,
+    work: &mut [u64],
+) -> usize
+    requires { ⌜ EnrichAsked (problemOf (now entries) q) all k depth level (now work) ⌝ }
+    ensures { λ r. ⌜ FitList (problemOf (now (entries .entry)) q) r depth level (now (work .exit)) ⌝ }
+{
+    let mut listed = k;
+    let mut rest = all;
+    loop {
+        let Highest::At(i) = rest.highest() else {
+            return listed;
+        };
+        let others = rest.without(i);
+        let one = rest.minus(others);
+        let set = seeded(entries, q, all, one, others, depth, level, work);
+        listed = also_new(entries, set, listed, level, work);
+        rest = others;
+    }
+}
+
+// A set grown by the limits that allow none, then by these promises and those, and then by all.
+fn seeded(
+    entries: &[u64],
+    q: Question,
+    all: Set,
+    first: Set,
+    second: Set,
+    depth: usize,
+    level: usize,
+    work: &mut [u64],
+) -> Set
+    requires { ⌜ ProblemAsked (problemOf (now entries) q) all depth level (now work) × Within (member first) (member all) × Within (member second) (member all) ⌝ }
+    ensures { λ r. ⌜ GrownIs (problemOf (now (entries .entry)) q) depth level (now (work .entry)) (now (work .exit)) r ⌝ }
+{
+    let base = closed(entries, q).intersection(all);
+    let low = grown(entries, q, Set::empty(), base, depth, level, work);
+    let one = grown(entries, q, low, first, depth, level, work);
+    let two = grown(entries, q, one, second, depth, level, work);
+    grown(entries, q, two, all, depth, level, work)
 }
 
 // Whether the needs and limits in a set are found to have no solution; that is learnt.
@@ -393,10 +465,11 @@ fn columns(
 {
     let mut k: usize = 0;
     loop {
-        if !weighs(entries, q, k, depth, level, work) {
+        let r = weighs(entries, q, k, depth, level, work);
+        if r == 0 {
             return Guess::Among(k);
         }
-        let prices = prices_behind(entries, q, k, level, work);
+        let prices = prices_behind(entries, q, k, r, level, work);
         let set = column(entries, q, all, prices, depth, level, work);
         if !pays(prices, set) {
             return Guess::Without(blamed(entries, q, weighted(prices)));

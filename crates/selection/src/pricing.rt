@@ -9,14 +9,17 @@ use counting::question;
 use counting::question::Question;
 use packed::word_at;
 use sets::Set;
+use simplex::weights::Sides;
+use simplex::weights::exceeds;
 use std::num;
 use wide::wide_at;
 
-// The needs, the entries that weigh something, and the weights of all entries: bit b of an entry's weight is in plane b.
-// Greater weights are halved until they fit.
+// The needs, the entries that weigh something, the divisor by which weights are rounded, and the weights of all entries: bit b
+// of an entry's weight is in plane b. Greater weights are halved until they fit, and not rounded then.
 pub struct Prices {
     pub needs: Set,
     pub heavy: Set,
+    pub divisor: u64,
     pub planes: [u64; 8],
 }
 
@@ -26,6 +29,7 @@ pub fn flat() -> Prices {
     Prices {
         needs: Set::empty(),
         heavy: Set::empty(),
+        divisor: 1,
         planes,
     }
 }
@@ -112,15 +116,17 @@ fn needs(entries: &[u64], q: Question) -> Set
     found
 }
 
-// What the 64 words from a place on say, as weights of the entries.
-pub fn prices_from(entries: &[u64], q: Question, words: &[u64], from: usize) -> Prices
+// What the 64 words from a place on say, as weights of the entries, rounded by a divisor.
+pub fn prices_from(entries: &[u64], q: Question, words: &[u64], from: usize, r: u64) -> Prices
     requires { ⌜ length (now entries) ≤ 64 ⌝ }
 {
     let lowest = halvings(greatest(words, from));
     let planes = planes_from(words, from, lowest);
+    let divisor = if lowest == 0 { r } else { 1 };
     Prices {
         needs: needs(entries, q),
         heavy: weighing(words, from),
+        divisor,
         planes,
     }
 }
@@ -170,7 +176,7 @@ fn total(p: Prices, set: Set) -> u64 {
     sum
 }
 
-// Whether the needs in the set weigh more than the limits outside it. Nothing else weighs, and an empty set never pays.
+// Whether the needs in the set, rounded, weigh more than the limits outside it. Nothing else weighs, and an empty set never pays.
 pub fn pays(p: Prices, set: Set) -> bool
     ensures { λ r. ⌜ (r ≡ true → member set ≡ nothing → ⊥) ⌝ }
 {
@@ -179,5 +185,9 @@ pub fn pays(p: Prices, set: Set) -> bool
     }
     let needs = p.needs;
     let limits = weighted(p).minus(needs);
-    total(p, limits.minus(set)) < total(p, needs.intersection(set))
+    let sides = Sides {
+        needs: total(p, needs.intersection(set)),
+        limits: total(p, limits.minus(set)),
+    };
+    exceeds(sides, p.divisor)
 }

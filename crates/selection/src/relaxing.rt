@@ -252,22 +252,22 @@ pub fn seen(
     checked(entries, q, words, at, k, slots, verdict)
 }
 
-// Whether weights are found that refute that the k sets from a place on give a solution. They stand in the 64 words behind
-// those then. Nothing is promised of them: sets that are not listed may still give one.
-pub fn weights(entries: &[u64], q: Question, words: &mut [u64], at: usize, k: usize) -> bool
+// The divisor of weights that refute that the k sets from a place on give a solution, or 0 if none are found. The weights stand
+// in the 64 words behind those then. Nothing is promised of them: sets that are not listed may still give one.
+pub fn weights(entries: &[u64], q: Question, words: &mut [u64], at: usize, k: usize) -> u64
     requires { ⌜ Relaxing (problemOf (now entries) q) (now words) at k 0 ⌝ }
     ensures { λ r. ⌜ SameBelow (at + k) (now (words .entry)) (now (words .exit)) ⌝ }
 {
     let spare = words.len() - at - k;
     if spare <= 64 {
-        return false;
+        return 0;
     }
     if spare - 64 <= k {
-        return false;
+        return 0;
     }
     let verdict = found(entries, q, words, at, k, 0);
     match verdict {
-        Verdict::Weights(_) => true,
-        _ => false,
+        Verdict::Weights(r) => r,
+        _ => 0,
     }
 }

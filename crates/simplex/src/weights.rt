@@ -69,7 +69,7 @@ fn of_bounds(s: &[u64], f: Frame) -> Sides {
 }
 
 // Whether the needs, rounded up over r, are more than the limits, rounded down.
-fn exceeds(sides: Sides, r: u64) -> bool {
+pub fn exceeds(sides: Sides, r: u64) -> bool {
     let needs = sides.needs;
     let limits = sides.limits;
     if r == 0 {

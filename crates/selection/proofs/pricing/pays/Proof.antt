@@ -6,7 +6,7 @@ use Rattle.selection.proofs.pricing.pays.Statement.{statement}
 use Rattle.selection.proofs.pricing.pays.Tie as tie
 
 returns-2 : tie.Need-returns-2
-returns-2 c so none = true≢false (sym (c .before .before .before .before .before .before .before .before .is-empty .ensures .1 none) ∙ c .before .before .before .before .before .before .before .if1 .left)
+returns-2 c so none = true≢false (sym (c .before .before .before .before .before .before .before .before .before .is-empty .ensures .1 none) ∙ c .before .before .before .before .before .before .before .before .if1 .left)
 
 pub pays-spec : {M : Type 1} → statement M
 pays-spec =
@@ -14,6 +14,7 @@ pays-spec =
     (tie.spec
     (λ c κs. search needs)
     (λ c so none. false≢true so)
+    (λ c κs. search needs)
     (λ c κs. search needs)
     (λ c κs. search needs)
     (λ c κs. search needs)

@@ -1,7 +1,10 @@
+-- The functions that call each other meet their contracts. Why a world's answer is right: what follows without a split takes no world
+-- away; the two cases of a split leave none out; where nothing is pending, solutions of all relations make a world; and a solution is
+-- found, or shown not to be, by lists of sets that can be kept, or by trying them all.
 use Prim.Native.Nat.{ℕ, suc, _+_, _-_, _*_, _<_, _≤_}
 use mathlib.Core.Bool.{Bool, true, false≢true}
 use borrow.Author.Tests.{not-true, not-false}
-use borrow.Rule.Slice.PartMut.{putMid, take-put}
+use borrow.Rule.Slice.PartMut.{take-put}
 use mathlib.Core.Path.{_≡_, refl, sym, ap, _∙_}
 use mathlib.Core.List.{_++_}
 use native.Mathlib.Omega.{arith}
@@ -29,9 +32,9 @@ use Rattle.sets.specs.Set.{removed, either, nothing, code}
 use Rattle.counting.specs.Question.{Closed}
 use Rattle.tableau.proofs.Together.{together}
 use Rattle.satisfy.specs.Asking.{listRoom}
-use Rattle.satisfy.specs.Listing.{Unkept, Lists, ListedMore, ListingIs, listOf}
+use Rattle.satisfy.specs.Listing.{Unkept, Lists, FitList, ListedMore, ListingIs, listOf}
 use Rattle.satisfy.proofs.Promises.{promise-below}
-use Rattle.satisfy.proofs.Largest.{either-fewer, either-right, removed-fewer, moved-within, code-above, either-made, added-within, removed-within, unfit-unkept, room-placed, lists-kept, listing-same, listing-from, listing-also, reaches-none, reaches-known, listing-branch, core-had, reaches-unkept, listing-covers, lists-none, parts-within, parts-inside}
+use Rattle.satisfy.proofs.Largest.{either-fewer, either-right, removed-fewer, moved-within, code-above, either-made, added-within, removed-within, unfit-unkept, room-placed, lists-kept, listing-same, listing-from, listing-also, reaches-none, reaches-known, listing-branch, core-had, reaches-unkept, listing-covers, lists-none, listed-new, guess-memory, parts-within, parts-inside}
 use Rattle.tableau.specs.Search.{asking, Fit}
 use Rattle.tableau.proofs.Tests.{both-parts}
 use Rattle.satisfy.specs.Force.{Forced}
@@ -54,82 +57,91 @@ use borrow.Fn.Kinds.{In}
 use borrow.Fn.PlainCycle.{Measures, is, falls, and}
 use Rattle.satisfy.proofs.world.branches.Reads as branches
 use Rattle.satisfy.proofs.world.branches.Kinds as branches-kinds
-use Rattle.satisfy.proofs.world.+branches+by_asking+by_columns+by_core+by_list+by_lists+can_keep+case_holds+column+columns+core_of+greedy+grown+grown_by+keeps+largest+leaf+opposed+refuted+relation+relations+said_by+solve+split+without+world.Lts-branches as branches-lts
+use Rattle.satisfy.proofs.world.+branches+by_asking+by_columns+by_core+by_list+by_lists+by_more+can_keep+case_holds+column+columns+core_of+enriched+greedy+grown+grown_by+keeps+largest+leaf+opposed+refuted+relation+relations+said_by+seeded+solve+split+without+world.Lts-branches as branches-lts
 use Rattle.satisfy.proofs.world.by_asking.Reads as by-asking
 use Rattle.satisfy.proofs.world.by_asking.Kinds as by-asking-kinds
-use Rattle.satisfy.proofs.world.+branches+by_asking+by_columns+by_core+by_list+by_lists+can_keep+case_holds+column+columns+core_of+greedy+grown+grown_by+keeps+largest+leaf+opposed+refuted+relation+relations+said_by+solve+split+without+world.Lts-by_asking as by-asking-lts
+use Rattle.satisfy.proofs.world.+branches+by_asking+by_columns+by_core+by_list+by_lists+by_more+can_keep+case_holds+column+columns+core_of+enriched+greedy+grown+grown_by+keeps+largest+leaf+opposed+refuted+relation+relations+said_by+seeded+solve+split+without+world.Lts-by_asking as by-asking-lts
 use Rattle.satisfy.proofs.world.by_columns.Reads as by-columns
 use Rattle.satisfy.proofs.world.by_columns.Kinds as by-columns-kinds
-use Rattle.satisfy.proofs.world.+branches+by_asking+by_columns+by_core+by_list+by_lists+can_keep+case_holds+column+columns+core_of+greedy+grown+grown_by+keeps+largest+leaf+opposed+refuted+relation+relations+said_by+solve+split+without+world.Lts-by_columns as by-columns-lts
+use Rattle.satisfy.proofs.world.+branches+by_asking+by_columns+by_core+by_list+by_lists+by_more+can_keep+case_holds+column+columns+core_of+enriched+greedy+grown+grown_by+keeps+largest+leaf+opposed+refuted+relation+relations+said_by+seeded+solve+split+without+world.Lts-by_columns as by-columns-lts
 use Rattle.satisfy.proofs.world.by_core.Reads as by-core
 use Rattle.satisfy.proofs.world.by_core.Kinds as by-core-kinds
-use Rattle.satisfy.proofs.world.+branches+by_asking+by_columns+by_core+by_list+by_lists+can_keep+case_holds+column+columns+core_of+greedy+grown+grown_by+keeps+largest+leaf+opposed+refuted+relation+relations+said_by+solve+split+without+world.Lts-by_core as by-core-lts
+use Rattle.satisfy.proofs.world.+branches+by_asking+by_columns+by_core+by_list+by_lists+by_more+can_keep+case_holds+column+columns+core_of+enriched+greedy+grown+grown_by+keeps+largest+leaf+opposed+refuted+relation+relations+said_by+seeded+solve+split+without+world.Lts-by_core as by-core-lts
 use Rattle.satisfy.proofs.world.by_list.Reads as by-list
 use Rattle.satisfy.proofs.world.by_list.Kinds as by-list-kinds
-use Rattle.satisfy.proofs.world.+branches+by_asking+by_columns+by_core+by_list+by_lists+can_keep+case_holds+column+columns+core_of+greedy+grown+grown_by+keeps+largest+leaf+opposed+refuted+relation+relations+said_by+solve+split+without+world.Lts-by_list as by-list-lts
+use Rattle.satisfy.proofs.world.+branches+by_asking+by_columns+by_core+by_list+by_lists+by_more+can_keep+case_holds+column+columns+core_of+enriched+greedy+grown+grown_by+keeps+largest+leaf+opposed+refuted+relation+relations+said_by+seeded+solve+split+without+world.Lts-by_list as by-list-lts
 use Rattle.satisfy.proofs.world.by_lists.Reads as by-lists
 use Rattle.satisfy.proofs.world.by_lists.Kinds as by-lists-kinds
-use Rattle.satisfy.proofs.world.+branches+by_asking+by_columns+by_core+by_list+by_lists+can_keep+case_holds+column+columns+core_of+greedy+grown+grown_by+keeps+largest+leaf+opposed+refuted+relation+relations+said_by+solve+split+without+world.Lts-by_lists as by-lists-lts
+use Rattle.satisfy.proofs.world.+branches+by_asking+by_columns+by_core+by_list+by_lists+by_more+can_keep+case_holds+column+columns+core_of+enriched+greedy+grown+grown_by+keeps+largest+leaf+opposed+refuted+relation+relations+said_by+seeded+solve+split+without+world.Lts-by_lists as by-lists-lts
+use Rattle.satisfy.proofs.world.by_more.Reads as by-more
+use Rattle.satisfy.proofs.world.by_more.Kinds as by-more-kinds
+use Rattle.satisfy.proofs.world.+branches+by_asking+by_columns+by_core+by_list+by_lists+by_more+can_keep+case_holds+column+columns+core_of+enriched+greedy+grown+grown_by+keeps+largest+leaf+opposed+refuted+relation+relations+said_by+seeded+solve+split+without+world.Lts-by_more as by-more-lts
 use Rattle.satisfy.proofs.world.can_keep.Reads as can-keep
 use Rattle.satisfy.proofs.world.can_keep.Kinds as can-keep-kinds
-use Rattle.satisfy.proofs.world.+branches+by_asking+by_columns+by_core+by_list+by_lists+can_keep+case_holds+column+columns+core_of+greedy+grown+grown_by+keeps+largest+leaf+opposed+refuted+relation+relations+said_by+solve+split+without+world.Lts-can_keep as can-keep-lts
+use Rattle.satisfy.proofs.world.+branches+by_asking+by_columns+by_core+by_list+by_lists+by_more+can_keep+case_holds+column+columns+core_of+enriched+greedy+grown+grown_by+keeps+largest+leaf+opposed+refuted+relation+relations+said_by+seeded+solve+split+without+world.Lts-can_keep as can-keep-lts
 use Rattle.satisfy.proofs.world.case_holds.Reads as case-holds
 use Rattle.satisfy.proofs.world.case_holds.Kinds as case-holds-kinds
-use Rattle.satisfy.proofs.world.+branches+by_asking+by_columns+by_core+by_list+by_lists+can_keep+case_holds+column+columns+core_of+greedy+grown+grown_by+keeps+largest+leaf+opposed+refuted+relation+relations+said_by+solve+split+without+world.Lts-case_holds as case-holds-lts
+use Rattle.satisfy.proofs.world.+branches+by_asking+by_columns+by_core+by_list+by_lists+by_more+can_keep+case_holds+column+columns+core_of+enriched+greedy+grown+grown_by+keeps+largest+leaf+opposed+refuted+relation+relations+said_by+seeded+solve+split+without+world.Lts-case_holds as case-holds-lts
 use Rattle.satisfy.proofs.world.column.Reads as column
 use Rattle.satisfy.proofs.world.column.Kinds as column-kinds
-use Rattle.satisfy.proofs.world.+branches+by_asking+by_columns+by_core+by_list+by_lists+can_keep+case_holds+column+columns+core_of+greedy+grown+grown_by+keeps+largest+leaf+opposed+refuted+relation+relations+said_by+solve+split+without+world.Lts-column as column-lts
+use Rattle.satisfy.proofs.world.+branches+by_asking+by_columns+by_core+by_list+by_lists+by_more+can_keep+case_holds+column+columns+core_of+enriched+greedy+grown+grown_by+keeps+largest+leaf+opposed+refuted+relation+relations+said_by+seeded+solve+split+without+world.Lts-column as column-lts
 use Rattle.satisfy.proofs.world.columns.Reads as columns
 use Rattle.satisfy.proofs.world.columns.Kinds as columns-kinds
-use Rattle.satisfy.proofs.world.+branches+by_asking+by_columns+by_core+by_list+by_lists+can_keep+case_holds+column+columns+core_of+greedy+grown+grown_by+keeps+largest+leaf+opposed+refuted+relation+relations+said_by+solve+split+without+world.Lts-columns as columns-lts
+use Rattle.satisfy.proofs.world.+branches+by_asking+by_columns+by_core+by_list+by_lists+by_more+can_keep+case_holds+column+columns+core_of+enriched+greedy+grown+grown_by+keeps+largest+leaf+opposed+refuted+relation+relations+said_by+seeded+solve+split+without+world.Lts-columns as columns-lts
 use Rattle.satisfy.proofs.world.core_of.Reads as core-of
 use Rattle.satisfy.proofs.world.core_of.Kinds as core-of-kinds
-use Rattle.satisfy.proofs.world.+branches+by_asking+by_columns+by_core+by_list+by_lists+can_keep+case_holds+column+columns+core_of+greedy+grown+grown_by+keeps+largest+leaf+opposed+refuted+relation+relations+said_by+solve+split+without+world.Lts-core_of as core-of-lts
+use Rattle.satisfy.proofs.world.+branches+by_asking+by_columns+by_core+by_list+by_lists+by_more+can_keep+case_holds+column+columns+core_of+enriched+greedy+grown+grown_by+keeps+largest+leaf+opposed+refuted+relation+relations+said_by+seeded+solve+split+without+world.Lts-core_of as core-of-lts
+use Rattle.satisfy.proofs.world.enriched.Reads as enriched
+use Rattle.satisfy.proofs.world.enriched.Kinds as enriched-kinds
+use Rattle.satisfy.proofs.world.+branches+by_asking+by_columns+by_core+by_list+by_lists+by_more+can_keep+case_holds+column+columns+core_of+enriched+greedy+grown+grown_by+keeps+largest+leaf+opposed+refuted+relation+relations+said_by+seeded+solve+split+without+world.Lts-enriched as enriched-lts
 use Rattle.satisfy.proofs.world.greedy.Reads as greedy
 use Rattle.satisfy.proofs.world.greedy.Kinds as greedy-kinds
-use Rattle.satisfy.proofs.world.+branches+by_asking+by_columns+by_core+by_list+by_lists+can_keep+case_holds+column+columns+core_of+greedy+grown+grown_by+keeps+largest+leaf+opposed+refuted+relation+relations+said_by+solve+split+without+world.Lts-greedy as greedy-lts
+use Rattle.satisfy.proofs.world.+branches+by_asking+by_columns+by_core+by_list+by_lists+by_more+can_keep+case_holds+column+columns+core_of+enriched+greedy+grown+grown_by+keeps+largest+leaf+opposed+refuted+relation+relations+said_by+seeded+solve+split+without+world.Lts-greedy as greedy-lts
 use Rattle.satisfy.proofs.world.grown.Reads as grown
 use Rattle.satisfy.proofs.world.grown.Kinds as grown-kinds
-use Rattle.satisfy.proofs.world.+branches+by_asking+by_columns+by_core+by_list+by_lists+can_keep+case_holds+column+columns+core_of+greedy+grown+grown_by+keeps+largest+leaf+opposed+refuted+relation+relations+said_by+solve+split+without+world.Lts-grown as grown-lts
+use Rattle.satisfy.proofs.world.+branches+by_asking+by_columns+by_core+by_list+by_lists+by_more+can_keep+case_holds+column+columns+core_of+enriched+greedy+grown+grown_by+keeps+largest+leaf+opposed+refuted+relation+relations+said_by+seeded+solve+split+without+world.Lts-grown as grown-lts
 use Rattle.satisfy.proofs.world.grown_by.Reads as grown-by
 use Rattle.satisfy.proofs.world.grown_by.Kinds as grown-by-kinds
-use Rattle.satisfy.proofs.world.+branches+by_asking+by_columns+by_core+by_list+by_lists+can_keep+case_holds+column+columns+core_of+greedy+grown+grown_by+keeps+largest+leaf+opposed+refuted+relation+relations+said_by+solve+split+without+world.Lts-grown_by as grown-by-lts
+use Rattle.satisfy.proofs.world.+branches+by_asking+by_columns+by_core+by_list+by_lists+by_more+can_keep+case_holds+column+columns+core_of+enriched+greedy+grown+grown_by+keeps+largest+leaf+opposed+refuted+relation+relations+said_by+seeded+solve+split+without+world.Lts-grown_by as grown-by-lts
 use Rattle.satisfy.proofs.world.keeps.Reads as keeps
 use Rattle.satisfy.proofs.world.keeps.Kinds as keeps-kinds
-use Rattle.satisfy.proofs.world.+branches+by_asking+by_columns+by_core+by_list+by_lists+can_keep+case_holds+column+columns+core_of+greedy+grown+grown_by+keeps+largest+leaf+opposed+refuted+relation+relations+said_by+solve+split+without+world.Lts-keeps as keeps-lts
+use Rattle.satisfy.proofs.world.+branches+by_asking+by_columns+by_core+by_list+by_lists+by_more+can_keep+case_holds+column+columns+core_of+enriched+greedy+grown+grown_by+keeps+largest+leaf+opposed+refuted+relation+relations+said_by+seeded+solve+split+without+world.Lts-keeps as keeps-lts
 use Rattle.satisfy.proofs.world.largest.Reads as largest
 use Rattle.satisfy.proofs.world.largest.Kinds as largest-kinds
-use Rattle.satisfy.proofs.world.+branches+by_asking+by_columns+by_core+by_list+by_lists+can_keep+case_holds+column+columns+core_of+greedy+grown+grown_by+keeps+largest+leaf+opposed+refuted+relation+relations+said_by+solve+split+without+world.Lts-largest as largest-lts
+use Rattle.satisfy.proofs.world.+branches+by_asking+by_columns+by_core+by_list+by_lists+by_more+can_keep+case_holds+column+columns+core_of+enriched+greedy+grown+grown_by+keeps+largest+leaf+opposed+refuted+relation+relations+said_by+seeded+solve+split+without+world.Lts-largest as largest-lts
 use Rattle.satisfy.proofs.world.leaf.Reads as leaf
 use Rattle.satisfy.proofs.world.leaf.Kinds as leaf-kinds
-use Rattle.satisfy.proofs.world.+branches+by_asking+by_columns+by_core+by_list+by_lists+can_keep+case_holds+column+columns+core_of+greedy+grown+grown_by+keeps+largest+leaf+opposed+refuted+relation+relations+said_by+solve+split+without+world.Lts-leaf as leaf-lts
+use Rattle.satisfy.proofs.world.+branches+by_asking+by_columns+by_core+by_list+by_lists+by_more+can_keep+case_holds+column+columns+core_of+enriched+greedy+grown+grown_by+keeps+largest+leaf+opposed+refuted+relation+relations+said_by+seeded+solve+split+without+world.Lts-leaf as leaf-lts
 use Rattle.satisfy.proofs.world.opposed.Reads as opposed
 use Rattle.satisfy.proofs.world.opposed.Kinds as opposed-kinds
-use Rattle.satisfy.proofs.world.+branches+by_asking+by_columns+by_core+by_list+by_lists+can_keep+case_holds+column+columns+core_of+greedy+grown+grown_by+keeps+largest+leaf+opposed+refuted+relation+relations+said_by+solve+split+without+world.Lts-opposed as opposed-lts
+use Rattle.satisfy.proofs.world.+branches+by_asking+by_columns+by_core+by_list+by_lists+by_more+can_keep+case_holds+column+columns+core_of+enriched+greedy+grown+grown_by+keeps+largest+leaf+opposed+refuted+relation+relations+said_by+seeded+solve+split+without+world.Lts-opposed as opposed-lts
 use Rattle.satisfy.proofs.world.refuted.Reads as refuted
 use Rattle.satisfy.proofs.world.refuted.Kinds as refuted-kinds
-use Rattle.satisfy.proofs.world.+branches+by_asking+by_columns+by_core+by_list+by_lists+can_keep+case_holds+column+columns+core_of+greedy+grown+grown_by+keeps+largest+leaf+opposed+refuted+relation+relations+said_by+solve+split+without+world.Lts-refuted as refuted-lts
+use Rattle.satisfy.proofs.world.+branches+by_asking+by_columns+by_core+by_list+by_lists+by_more+can_keep+case_holds+column+columns+core_of+enriched+greedy+grown+grown_by+keeps+largest+leaf+opposed+refuted+relation+relations+said_by+seeded+solve+split+without+world.Lts-refuted as refuted-lts
 use Rattle.satisfy.proofs.world.relation.Reads as relation
 use Rattle.satisfy.proofs.world.relation.Kinds as relation-kinds
-use Rattle.satisfy.proofs.world.+branches+by_asking+by_columns+by_core+by_list+by_lists+can_keep+case_holds+column+columns+core_of+greedy+grown+grown_by+keeps+largest+leaf+opposed+refuted+relation+relations+said_by+solve+split+without+world.Lts-relation as relation-lts
+use Rattle.satisfy.proofs.world.+branches+by_asking+by_columns+by_core+by_list+by_lists+by_more+can_keep+case_holds+column+columns+core_of+enriched+greedy+grown+grown_by+keeps+largest+leaf+opposed+refuted+relation+relations+said_by+seeded+solve+split+without+world.Lts-relation as relation-lts
 use Rattle.satisfy.proofs.world.relations.Reads as relations
 use Rattle.satisfy.proofs.world.relations.Kinds as relations-kinds
-use Rattle.satisfy.proofs.world.+branches+by_asking+by_columns+by_core+by_list+by_lists+can_keep+case_holds+column+columns+core_of+greedy+grown+grown_by+keeps+largest+leaf+opposed+refuted+relation+relations+said_by+solve+split+without+world.Lts-relations as relations-lts
+use Rattle.satisfy.proofs.world.+branches+by_asking+by_columns+by_core+by_list+by_lists+by_more+can_keep+case_holds+column+columns+core_of+enriched+greedy+grown+grown_by+keeps+largest+leaf+opposed+refuted+relation+relations+said_by+seeded+solve+split+without+world.Lts-relations as relations-lts
 use Rattle.satisfy.proofs.world.said_by.Reads as said-by
 use Rattle.satisfy.proofs.world.said_by.Kinds as said-by-kinds
-use Rattle.satisfy.proofs.world.+branches+by_asking+by_columns+by_core+by_list+by_lists+can_keep+case_holds+column+columns+core_of+greedy+grown+grown_by+keeps+largest+leaf+opposed+refuted+relation+relations+said_by+solve+split+without+world.Lts-said_by as said-by-lts
+use Rattle.satisfy.proofs.world.+branches+by_asking+by_columns+by_core+by_list+by_lists+by_more+can_keep+case_holds+column+columns+core_of+enriched+greedy+grown+grown_by+keeps+largest+leaf+opposed+refuted+relation+relations+said_by+seeded+solve+split+without+world.Lts-said_by as said-by-lts
+use Rattle.satisfy.proofs.world.seeded.Reads as seeded
+use Rattle.satisfy.proofs.world.seeded.Kinds as seeded-kinds
+use Rattle.satisfy.proofs.world.+branches+by_asking+by_columns+by_core+by_list+by_lists+by_more+can_keep+case_holds+column+columns+core_of+enriched+greedy+grown+grown_by+keeps+largest+leaf+opposed+refuted+relation+relations+said_by+seeded+solve+split+without+world.Lts-seeded as seeded-lts
 use Rattle.satisfy.proofs.world.solve.Reads as solve
 use Rattle.satisfy.proofs.world.solve.Kinds as solve-kinds
-use Rattle.satisfy.proofs.world.+branches+by_asking+by_columns+by_core+by_list+by_lists+can_keep+case_holds+column+columns+core_of+greedy+grown+grown_by+keeps+largest+leaf+opposed+refuted+relation+relations+said_by+solve+split+without+world.Lts-solve as solve-lts
+use Rattle.satisfy.proofs.world.+branches+by_asking+by_columns+by_core+by_list+by_lists+by_more+can_keep+case_holds+column+columns+core_of+enriched+greedy+grown+grown_by+keeps+largest+leaf+opposed+refuted+relation+relations+said_by+seeded+solve+split+without+world.Lts-solve as solve-lts
 use Rattle.satisfy.proofs.world.split.Reads as split
 use Rattle.satisfy.proofs.world.split.Kinds as split-kinds
-use Rattle.satisfy.proofs.world.+branches+by_asking+by_columns+by_core+by_list+by_lists+can_keep+case_holds+column+columns+core_of+greedy+grown+grown_by+keeps+largest+leaf+opposed+refuted+relation+relations+said_by+solve+split+without+world.Lts-split as split-lts
+use Rattle.satisfy.proofs.world.+branches+by_asking+by_columns+by_core+by_list+by_lists+by_more+can_keep+case_holds+column+columns+core_of+enriched+greedy+grown+grown_by+keeps+largest+leaf+opposed+refuted+relation+relations+said_by+seeded+solve+split+without+world.Lts-split as split-lts
 use Rattle.satisfy.proofs.world.without.Reads as without
 use Rattle.satisfy.proofs.world.without.Kinds as without-kinds
-use Rattle.satisfy.proofs.world.+branches+by_asking+by_columns+by_core+by_list+by_lists+can_keep+case_holds+column+columns+core_of+greedy+grown+grown_by+keeps+largest+leaf+opposed+refuted+relation+relations+said_by+solve+split+without+world.Lts-without as without-lts
+use Rattle.satisfy.proofs.world.+branches+by_asking+by_columns+by_core+by_list+by_lists+by_more+can_keep+case_holds+column+columns+core_of+enriched+greedy+grown+grown_by+keeps+largest+leaf+opposed+refuted+relation+relations+said_by+seeded+solve+split+without+world.Lts-without as without-lts
 use Rattle.satisfy.proofs.world.world.Reads as world
 use Rattle.satisfy.proofs.world.world.Kinds as world-kinds
-use Rattle.satisfy.proofs.world.+branches+by_asking+by_columns+by_core+by_list+by_lists+can_keep+case_holds+column+columns+core_of+greedy+grown+grown_by+keeps+largest+leaf+opposed+refuted+relation+relations+said_by+solve+split+without+world.Lts-world as world-lts
+use Rattle.satisfy.proofs.world.+branches+by_asking+by_columns+by_core+by_list+by_lists+by_more+can_keep+case_holds+column+columns+core_of+enriched+greedy+grown+grown_by+keeps+largest+leaf+opposed+refuted+relation+relations+said_by+seeded+solve+split+without+world.Lts-world as world-lts
 use Rattle.counting.proofs.bounds.met.Reads as met-reads
 use Rattle.counting.proofs.bounds.unmet.Reads as unmet-reads
 use Rattle.counting.proofs.bounds.used_up.Reads as used-up-reads
@@ -150,6 +162,7 @@ use Rattle.satisfy.proofs.force.force.Reads as force-reads
 use Rattle.satisfy.proofs.learning.learn_refuted.Reads as learn-refuted-reads
 use Rattle.satisfy.proofs.learning.learn_world.Reads as learn-world-reads
 use Rattle.satisfy.proofs.listing.also.Reads as also-reads
+use Rattle.satisfy.proofs.listing.also_new.Reads as also-new-reads
 use Rattle.satisfy.proofs.listing.blamed.Reads as blamed-reads
 use Rattle.satisfy.proofs.listing.blamed_behind.Reads as blamed-behind-reads
 use Rattle.satisfy.proofs.listing.highest_of.Reads as highest-of-reads
@@ -176,8 +189,8 @@ use Rattle.sets.proofs.Set.minus.Reads as minus-reads
 use Rattle.sets.proofs.Set.union.Reads as union-reads
 use Rattle.sets.proofs.Set.with.Reads as with-reads
 use Rattle.sets.proofs.Set.without.Reads as without-reads
-use Rattle.satisfy.proofs.world.+branches+by_asking+by_columns+by_core+by_list+by_lists+can_keep+case_holds+column+columns+core_of+greedy+grown+grown_by+keeps+largest+leaf+opposed+refuted+relation+relations+said_by+solve+split+without+world.{statement}
-use Rattle.satisfy.proofs.world.+branches+by_asking+by_columns+by_core+by_list+by_lists+can_keep+case_holds+column+columns+core_of+greedy+grown+grown_by+keeps+largest+leaf+opposed+refuted+relation+relations+said_by+solve+split+without+world.Tie.{close}
+use Rattle.satisfy.proofs.world.+branches+by_asking+by_columns+by_core+by_list+by_lists+by_more+can_keep+case_holds+column+columns+core_of+enriched+greedy+grown+grown_by+keeps+largest+leaf+opposed+refuted+relation+relations+said_by+seeded+solve+split+without+world.{statement}
+use Rattle.satisfy.proofs.world.+branches+by_asking+by_columns+by_core+by_list+by_lists+by_more+can_keep+case_holds+column+columns+core_of+enriched+greedy+grown+grown_by+keeps+largest+leaf+opposed+refuted+relation+relations+said_by+seeded+solve+split+without+world.Tie.{close}
 
 -- The measure falls with the depth; within a world, with the bound on what is pending; and in a list, with the promises that are free.
 abbrev μ-branches : Measures 2 branches-kinds.ps ℕ
@@ -198,6 +211,9 @@ abbrev μ-by-list : Measures 2 by-list-kinds.ps ℕ
 abbrev μ-by-lists : Measures 2 by-lists-kinds.ps ℕ
 μ-by-lists κs a = a .1 .1 .1 .0 * 512 + 145
 
+abbrev μ-by-more : Measures 2 by-more-kinds.ps ℕ
+μ-by-more κs a = a .1 .1 .1 .0 * 512 + 9
+
 abbrev μ-can-keep : Measures 2 can-keep-kinds.ps ℕ
 μ-can-keep κs a = a .1 .1 .1 .0 * 512 + 2
 
@@ -212,6 +228,9 @@ abbrev μ-columns : Measures 2 columns-kinds.ps ℕ
 
 abbrev μ-core-of : Measures 2 core-of-kinds.ps ℕ
 μ-core-of κs a = a .1 .1 .1 .1 .0 * 512 + 4
+
+abbrev μ-enriched : Measures 2 enriched-kinds.ps ℕ
+μ-enriched κs a = a .1 .1 .1 .1 .0 * 512 + 8
 
 abbrev μ-greedy : Measures 2 greedy-kinds.ps ℕ
 μ-greedy κs a = a .1 .1 .1 .0 * 512 + 6
@@ -245,6 +264,9 @@ abbrev μ-relations : Measures 2 relations-kinds.ps ℕ
 
 abbrev μ-said-by : Measures 2 said-by-kinds.ps ℕ
 μ-said-by κs a = a .1 .1 .1 .1 .0 * 512 + 144
+
+abbrev μ-seeded : Measures 2 seeded-kinds.ps ℕ
+μ-seeded κs a = a .1 .1 .1 .1 .1 .0 * 512 + 7
 
 abbrev μ-solve : Measures 2 solve-kinds.ps ℕ
 μ-solve κs a = a .1 .1 .1 .0 * 512 + 146
@@ -294,6 +316,12 @@ by-lists-at t = and 2 by-lists-kinds.ps (is 2 by-lists-kinds.ps μ-by-lists t) b
 abbrev by-lists-below : ℕ → In 2 by-lists-kinds.ps
 by-lists-below t = and 2 by-lists-kinds.ps (falls 2 by-lists-kinds.ps _<_ μ-by-lists t) by-lists.Pre
 
+abbrev by-more-at : ℕ → In 2 by-more-kinds.ps
+by-more-at t = and 2 by-more-kinds.ps (is 2 by-more-kinds.ps μ-by-more t) by-more.Pre
+
+abbrev by-more-below : ℕ → In 2 by-more-kinds.ps
+by-more-below t = and 2 by-more-kinds.ps (falls 2 by-more-kinds.ps _<_ μ-by-more t) by-more.Pre
+
 abbrev can-keep-at : ℕ → In 2 can-keep-kinds.ps
 can-keep-at t = and 2 can-keep-kinds.ps (is 2 can-keep-kinds.ps μ-can-keep t) can-keep.Pre
 
@@ -323,6 +351,12 @@ core-of-at t = and 2 core-of-kinds.ps (is 2 core-of-kinds.ps μ-core-of t) core-
 
 abbrev core-of-below : ℕ → In 2 core-of-kinds.ps
 core-of-below t = and 2 core-of-kinds.ps (falls 2 core-of-kinds.ps _<_ μ-core-of t) core-of.Pre
+
+abbrev enriched-at : ℕ → In 2 enriched-kinds.ps
+enriched-at t = and 2 enriched-kinds.ps (is 2 enriched-kinds.ps μ-enriched t) enriched.Pre
+
+abbrev enriched-below : ℕ → In 2 enriched-kinds.ps
+enriched-below t = and 2 enriched-kinds.ps (falls 2 enriched-kinds.ps _<_ μ-enriched t) enriched.Pre
 
 abbrev greedy-at : ℕ → In 2 greedy-kinds.ps
 greedy-at t = and 2 greedy-kinds.ps (is 2 greedy-kinds.ps μ-greedy t) greedy.Pre
@@ -390,6 +424,12 @@ said-by-at t = and 2 said-by-kinds.ps (is 2 said-by-kinds.ps μ-said-by t) said-
 abbrev said-by-below : ℕ → In 2 said-by-kinds.ps
 said-by-below t = and 2 said-by-kinds.ps (falls 2 said-by-kinds.ps _<_ μ-said-by t) said-by.Pre
 
+abbrev seeded-at : ℕ → In 2 seeded-kinds.ps
+seeded-at t = and 2 seeded-kinds.ps (is 2 seeded-kinds.ps μ-seeded t) seeded.Pre
+
+abbrev seeded-below : ℕ → In 2 seeded-kinds.ps
+seeded-below t = and 2 seeded-kinds.ps (falls 2 seeded-kinds.ps _<_ μ-seeded t) seeded.Pre
+
 abbrev solve-at : ℕ → In 2 solve-kinds.ps
 solve-at t = and 2 solve-kinds.ps (is 2 solve-kinds.ps μ-solve t) solve.Pre
 
@@ -425,7 +465,7 @@ by-asking-calls t =
 
 abbrev by-columns-calls : ℕ → by-columns-lts.Claims
 by-columns-calls t =
-    (columns-below t, columns.Post, selected-reads.Asked, selected-reads.Learnt, without-below t, without.Post)
+    (columns-below t, columns.Post, selected-reads.Asked, selected-reads.Learnt, by-more-below t, by-more.Post, without-below t, without.Post)
 
 abbrev by-core-calls : ℕ → by-core-lts.Claims
 by-core-calls t =
@@ -438,6 +478,10 @@ by-list-calls t =
 abbrev by-lists-calls : ℕ → by-lists-lts.Claims
 by-lists-calls t =
     (is-short-reads.Asked, is-short-reads.Learnt, said-by-below t, said-by.Post)
+
+abbrev by-more-calls : ℕ → by-more-lts.Claims
+by-more-calls t =
+    (columns-below t, columns.Post, enriched-below t, enriched.Post, selected-reads.Asked, selected-reads.Learnt)
 
 abbrev can-keep-calls : ℕ → can-keep-lts.Claims
 can-keep-calls t =
@@ -458,6 +502,10 @@ columns-calls t =
 abbrev core-of-calls : ℕ → core-of-lts.Claims
 core-of-calls t =
     (highest-reads.Asked, highest-reads.Learnt, without-reads.Asked, without-reads.Learnt, union-reads.Asked, union-reads.Learnt, keeps-below t, keeps.Post)
+
+abbrev enriched-calls : ℕ → enriched-lts.Claims
+enriched-calls t =
+    (highest-reads.Asked, highest-reads.Learnt, without-reads.Asked, without-reads.Learnt, minus-reads.Asked, minus-reads.Learnt, seeded-below t, seeded.Post, also-new-reads.Asked, also-new-reads.Learnt)
 
 abbrev greedy-calls : ℕ → greedy-lts.Claims
 greedy-calls t =
@@ -502,6 +550,10 @@ relations-calls t =
 abbrev said-by-calls : ℕ → said-by-lts.Claims
 said-by-calls t =
     (by-core-below t, by-core.Post, by-columns-below t, by-columns.Post)
+
+abbrev seeded-calls : ℕ → seeded-lts.Claims
+seeded-calls t =
+    (closed-reads.Asked, closed-reads.Learnt, intersection-reads.Asked, intersection-reads.Learnt, empty-reads.Asked, empty-reads.Learnt, grown-below t, grown.Post)
 
 abbrev solve-calls : ℕ → solve-lts.Claims
 solve-calls t =
@@ -1999,10 +2051,10 @@ by-columns-returns-2 : (t : ℕ) → by-columns-lts.Need-returns-2 (by-columns-c
 by-columns-returns-2 t c = (c .before .before .before .without .ensures .0 (c .if2 .taken), c .before .before .before .without .ensures .1)
 
 by-columns-same-length-3 : (t : ℕ) → by-columns-lts.Need-same-length-3 (by-columns-calls t) (by-columns-at t) by-columns.Post
-by-columns-same-length-3 t c = c .before .before .before .selected .kept .1 .1 .1 .1 .1 .1 .0 ∙ c .before .before .before .before .before .before .before .before .before .before .columns .kept .1 .1 .1 .1 .1 .0
+by-columns-same-length-3 t c = c .before .before .by-more .kept .1 .1 .1 .1 .1 .0 ∙ c .before .before .before .before .before .before .before .selected .kept .1 .1 .1 .1 .1 .1 .0 ∙ c .before .before .before .before .before .before .before .before .before .before .before .before .before .before .columns .kept .1 .1 .1 .1 .1 .0
 
 by-columns-returns-3 : (t : ℕ) → by-columns-lts.Need-returns-3 (by-columns-calls t) (by-columns-at t) by-columns.Post
-by-columns-returns-3 t c = (tt, c .before .before .before .selected .ensures .1)
+by-columns-returns-3 t c = c .before .before .by-more .ensures
 
 by-columns-same-length-4 : (t : ℕ) → by-columns-lts.Need-same-length-4 (by-columns-calls t) (by-columns-at t) by-columns.Post
 by-columns-same-length-4 t c = c .before .before .before .without .kept .1 .1 .1 .1 .1 .0 ∙ c .before .before .before .before .before .before .before .before .before .before .columns .kept .1 .1 .1 .1 .1 .0
@@ -2494,9 +2546,233 @@ opposed-intersection-requires t c κs = search needs
 opposed-union-requires : (t : ℕ) → opposed-lts.Need-union-requires (opposed-calls t) (opposed-at t) opposed.Post opposed-Inv-loop opposed-μ-loop
 opposed-union-requires t c κs = search needs
 
-pub +branches+by-asking+by-columns+by-core+by-list+by-lists+can-keep+case-holds+column+columns+core-of+greedy+grown+grown-by+keeps+largest+leaf+opposed+refuted+relation+relations+said-by+solve+split+without+world-spec :
+abbrev enriched-Inv-loop : enriched-lts.InvT-loop
+enriched-Inv-loop entries q all k depth level work₀ listed₀ rest₀ work listed rest =
+    Within (member rest) (member all) × (length work ≡ length work₀) × FitList (problemOf entries q) listed depth level work
+
+abbrev enriched-μ-loop : enriched-lts.MeasureT-loop
+enriched-μ-loop entries q all k depth level work₀ listed₀ rest₀ work listed rest = count (member rest) 64
+
+-- the promise to begin with
+seed-in : (t : ℕ) (c : enriched-lts.After-i (enriched-calls t) (enriched-at t) enriched.Post enriched-Inv-loop enriched-μ-loop)
+    → member (c .before .before .before .loop .rest) (c .i .given .0 .0) ≡ true
+seed-in t c = (rw (c .i .given .1) at (c .before .before .highest .ensures)) .here
+
+-- it is an entry
+seed-small : (t : ℕ) (c : enriched-lts.After-i (enriched-calls t) (enriched-at t) enriched.Post enriched-Inv-loop enriched-μ-loop)
+    → c .i .given .0 .0 < 64
+seed-small t c =
+    let asked = c .before .before .before .before .before .before .pre .1 .problem in
+    omega (arith, chosen-below asked (c .before .before .before .loop .inv .0) _ (seed-in t c), asked .promising .few)
+
+by-columns-by-more-requires : (t : ℕ) → by-columns-lts.Need-by-more-requires (by-columns-calls t) (by-columns-at t) by-columns.Post
+by-columns-by-more-requires t c κs =
+    let asked = c .before .before .before .before .before .before .before .before .before .before .before .before .before .before .before .pre .1 in (
+      omega (arith, c .before .before .before .before .before .before .before .before .before .before .before .before .before .before .before .pre .0),
+      record {
+        promising = asked .promising;
+        deep = asked .deep;
+        all-asking = asked .all-asking;
+        room = room-kept (c .before .before .before .before .selected .kept .1 .1 .1 .1 .1 .1 .0 ∙ c .before .before .before .before .before .before .before .before .before .before .before .columns .kept .1 .1 .1 .1 .1 .0) (asked .room);
+        memory = c .before .before .before .before .selected .ensures .1;
+      },
+    )
+
+by-more-columns-requires : (t : ℕ) → by-more-lts.Need-columns-requires (by-more-calls t) (by-more-at t) by-more.Post
+by-more-columns-requires t c κs = (omega (arith, c .before .before .before .pre .0), c .before .before .before .pre .1)
+
+by-more-enum-known-k : (t : ℕ) → by-more-lts.Need-enum-known-k (by-more-calls t) (by-more-at t) by-more.Post
+by-more-enum-known-k t c = search needs
+
+by-more-same-length : (t : ℕ) → by-more-lts.Need-same-length (by-more-calls t) (by-more-at t) by-more.Post
+by-more-same-length t c = c .before .before .before .columns .kept .1 .1 .1 .1 .1 .0
+
+by-more-returns : (t : ℕ) → by-more-lts.Need-returns (by-more-calls t) (by-more-at t) by-more.Post
+by-more-returns t c = (tt, guess-memory _ _ _ _ (c .before .before .before .columns .result) (c .before .before .before .columns .ensures))
+
+by-more-enriched-requires : (t : ℕ) → by-more-lts.Need-enriched-requires (by-more-calls t) (by-more-at t) by-more.Post
+by-more-enriched-requires t c κs =
+    let asked = c .before .before .before .before .before .before .before .before .before .before .pre .1 in
+    let guess = rw (c .before .before .k .given .1) at (c .before .before .before .before .before .before .columns .ensures) in (
+      omega (arith, c .before .before .before .before .before .before .before .before .before .before .pre .0),
+      record {
+        problem = record {
+          promising = asked .promising;
+          deep = asked .deep;
+          all-asking = asked .all-asking;
+          room = room-kept (c .before .before .before .before .before .before .columns .kept .1 .1 .1 .1 .1 .0) (asked .room);
+          memory = guess .memory;
+        };
+        lists = guess .lists;
+      },
+    )
+
+by-more-selected-requires : (t : ℕ) → by-more-lts.Need-selected-requires (by-more-calls t) (by-more-at t) by-more.Post
+by-more-selected-requires t c κs =
+    let asked = c .before .before .before .before .before .before .before .before .before .before .before .before .before .before .pre .1 in
+    record {
+      problem = record { few = asked .promising .few; below = asked .promising .below };
+      all-asking = asked .all-asking;
+      deep = asked .deep;
+      room = room-kept (c .before .before .before .enriched .kept .1 .1 .1 .1 .1 .1 .0 ∙ c .before .before .before .before .before .before .before .before .before .before .columns .kept .1 .1 .1 .1 .1 .0) (asked .room);
+      memory = c .before .before .before .enriched .ensures .memory;
+      lists = c .before .before .before .enriched .ensures .lists;
+    }
+
+by-more-same-length-2 : (t : ℕ) → by-more-lts.Need-same-length-2 (by-more-calls t) (by-more-at t) by-more.Post
+by-more-same-length-2 t c = c .before .before .before .selected .kept .1 .1 .1 .1 .1 .1 .0 ∙ c .before .before .before .before .before .before .before .enriched .kept .1 .1 .1 .1 .1 .1 .0 ∙ c .before .before .before .before .before .before .before .before .before .before .before .before .before .before .columns .kept .1 .1 .1 .1 .1 .0
+
+by-more-returns-2 : (t : ℕ) → by-more-lts.Need-returns-2 (by-more-calls t) (by-more-at t) by-more.Post
+by-more-returns-2 t c = (rw (c .if1 .taken) at (c .before .before .before .selected .ensures .0), c .before .before .before .selected .ensures .1)
+
+by-more-same-length-3 : (t : ℕ) → by-more-lts.Need-same-length-3 (by-more-calls t) (by-more-at t) by-more.Post
+by-more-same-length-3 t c = c .before .before .before .selected .kept .1 .1 .1 .1 .1 .1 .0 ∙ c .before .before .before .before .before .before .before .enriched .kept .1 .1 .1 .1 .1 .1 .0 ∙ c .before .before .before .before .before .before .before .before .before .before .before .before .before .before .columns .kept .1 .1 .1 .1 .1 .0
+
+by-more-returns-3 : (t : ℕ) → by-more-lts.Need-returns-3 (by-more-calls t) (by-more-at t) by-more.Post
+by-more-returns-3 t c = (tt, c .before .before .before .selected .ensures .1)
+
+enriched-loop-holds : (t : ℕ) → enriched-lts.Need-loop-holds (enriched-calls t) (enriched-at t) enriched.Post enriched-Inv-loop enriched-μ-loop
+enriched-loop-holds t c = (λ i h. h, refl, record { lists = c .before .before .pre .1 .lists; memory = c .before .before .pre .1 .problem .memory })
+
+enriched-highest-requires : (t : ℕ) → enriched-lts.Need-highest-requires (enriched-calls t) (enriched-at t) enriched.Post enriched-Inv-loop enriched-μ-loop
+enriched-highest-requires t c κs = search needs
+
+enriched-enum-known-i : (t : ℕ) → enriched-lts.Need-enum-known-i (enriched-calls t) (enriched-at t) enriched.Post enriched-Inv-loop enriched-μ-loop
+enriched-enum-known-i t c = search needs
+
+enriched-enum-told : (t : ℕ) → enriched-lts.Need-enum-told (enriched-calls t) (enriched-at t) enriched.Post enriched-Inv-loop enriched-μ-loop
+enriched-enum-told t c = search needs
+
+enriched-same-length : (t : ℕ) → enriched-lts.Need-same-length (enriched-calls t) (enriched-at t) enriched.Post enriched-Inv-loop enriched-μ-loop
+enriched-same-length t c = c .before .before .before .loop .inv .1
+
+enriched-returns : (t : ℕ) → enriched-lts.Need-returns (enriched-calls t) (enriched-at t) enriched.Post enriched-Inv-loop enriched-μ-loop
+enriched-returns t c = c .before .before .before .loop .inv .2
+
+enriched-without-requires : (t : ℕ) → enriched-lts.Need-without-requires (enriched-calls t) (enriched-at t) enriched.Post enriched-Inv-loop enriched-μ-loop
+enriched-without-requires t c κs = search needs
+
+enriched-minus-requires : (t : ℕ) → enriched-lts.Need-minus-requires (enriched-calls t) (enriched-at t) enriched.Post enriched-Inv-loop enriched-μ-loop
+enriched-minus-requires t c κs = search needs
+
+enriched-seeded-requires : (t : ℕ) → enriched-lts.Need-seeded-requires (enriched-calls t) (enriched-at t) enriched.Post enriched-Inv-loop enriched-μ-loop
+enriched-seeded-requires t c κs =
+    let asked = c .before .before .before .before .before .before .before .before .before .before .pre .1 .problem in
+    let inv = c .before .before .before .before .before .before .before .loop .inv in
+    let rest = member (c .before .before .before .before .before .before .before .loop .rest) in (
+      omega (arith, c .before .before .before .before .before .before .before .before .before .before .pre .0),
+      (
+        record {
+          promising = asked .promising;
+          deep = asked .deep;
+          all-asking = asked .all-asking;
+          room = room-kept (inv .1) (asked .room);
+          memory = inv .2 .memory;
+        },
+        rw (c .before .minus .ensures) (λ j h. inv .0 j (both-parts true (rest j) _ h .0)),
+        rw (c .before .before .without .ensures) (λ j h. inv .0 j (removed-within rest (c .before .before .before .before .i .given .0 .0) j h)),
+      ),
+    )
+
+enriched-also-new-requires : (t : ℕ) → enriched-lts.Need-also-new-requires (enriched-calls t) (enriched-at t) enriched.Post enriched-Inv-loop enriched-μ-loop
+enriched-also-new-requires t c κs =
+    let a = c .before .before .before .before .before .before .before .before .before .before .before .before .before .before .args in
+    let asked = c .before .before .before .before .before .before .before .before .before .before .before .before .before .before .pre .1 .problem in
+    room-placed (problemOf (a .entries .now) (a .q)) (asked .promising .few) (room-kept (c .before .before .before .seeded .kept .1 .1 .1 .1 .1 .1 .1 .0 ∙ c .before .before .before .before .before .before .before .before .before .before .before .loop .inv .1) (asked .room)) (c .before .before .before .before .before .before .before .before .before .before .before .loop .inv .2 .lists .some)
+
+enriched-loop-less : (t : ℕ) → enriched-lts.Need-loop-less (enriched-calls t) (enriched-at t) enriched.Post enriched-Inv-loop enriched-μ-loop
+enriched-loop-less t c = rw (c .before .before .before .before .before .before .before .before .before .without .ensures) (count-removed (member (c .before .before .before .before .before .before .before .before .before .before .before .before .before .before .loop .rest)) 64 (seed-in t (c .before .before .before .before .before .before .before .before .before .before .before)) (seed-small t (c .before .before .before .before .before .before .before .before .before .before .before)))
+
+enriched-loop-again : (t : ℕ) → enriched-lts.Need-loop-again (enriched-calls t) (enriched-at t) enriched.Post enriched-Inv-loop enriched-μ-loop
+enriched-loop-again t c =
+    let a = c .before .before .before .before .before .before .before .before .before .before .before .before .before .before .before .before .before .args in
+    let asked = c .before .before .before .before .before .before .before .before .before .before .before .before .before .before .before .before .before .pre .1 .problem in
+    let inv = c .before .before .before .before .before .before .before .before .before .before .before .before .before .before .loop .inv in
+    let P = problemOf (a .entries .now) (a .q) in
+    let fits : listRoom (length (a .entries .now)) ≤ a .level = omega (arith, asked .room .stack) in
+    let seeded = c .before .before .before .before .before .before .seeded .ensures in
+    let mid = c .before .before .before .before .before .before .seeded .last .1 .1 .1 .1 .1 .1 .1 .0 in (
+      rw (c .before .before .before .before .before .before .before .before .before .without .ensures) (λ j h. inv .0 j (removed-within (member (c .before .before .before .before .before .before .before .before .before .before .before .before .before .before .loop .rest)) (c .before .before .before .before .before .before .before .before .before .before .before .i .given .0 .0) j h)),
+      c .before .before .also-new .kept .1 .1 .1 .1 .0 ∙ c .before .before .before .before .before .before .seeded .kept .1 .1 .1 .1 .1 .1 .1 .0 ∙ inv .1,
+      listed-new P (a .depth) (a .level) mid _ (c .before .before .before .before .before .before .seeded .result) fits (lists-kept P fits (c .before .before .before .before .before .before .before .before .before .before .before .before .before .before .loop .work) mid (seeded .same) (inv .2 .lists)) (seeded .memory) (seeded .fit) _ (c .before .before .also-new .ensures),
+    )
+
+seeded-closed-requires : (t : ℕ) → seeded-lts.Need-closed-requires (seeded-calls t) (seeded-at t) seeded.Post
+seeded-closed-requires t c κs = record { few = c .before .before .pre .1 .0 .promising .few; below = c .before .before .pre .1 .0 .promising .below }
+
+seeded-intersection-requires : (t : ℕ) → seeded-lts.Need-intersection-requires (seeded-calls t) (seeded-at t) seeded.Post
+seeded-intersection-requires t c κs = search needs
+
+seeded-empty-requires : (t : ℕ) → seeded-lts.Need-empty-requires (seeded-calls t) (seeded-at t) seeded.Post
+seeded-empty-requires t c κs = search needs
+
+seeded-grown-requires : (t : ℕ) → seeded-lts.Need-grown-requires (seeded-calls t) (seeded-at t) seeded.Post
+seeded-grown-requires t c κs =
+    let start = c .before .before .before .before .before .before in
+    let asked = start .pre .1 .0 in (
+      omega (arith, start .pre .0),
+      record {
+        promising = promising-of (asked .promising) (either-made (member (c .before .empty .result)) (member (c .before .before .intersection .result)) (rw (c .before .empty .ensures) (λ i h. absurd (false≢true h))) (λ i h. rw (asked .all-asking) at (both-parts true (member (c .before .before .before .closed .result) i) _ (rw (c .before .before .intersection .ensures) at h) .1)));
+        fit = inl (c .before .empty .ensures);
+        deep = asked .deep;
+        room = asked .room;
+        memory = asked .memory;
+      },
+    )
+
+seeded-grown-requires-2 : (t : ℕ) → seeded-lts.Need-grown-requires-2 (seeded-calls t) (seeded-at t) seeded.Post
+seeded-grown-requires-2 t c κs =
+    let start = c .before .before .before .before .before .before .before .before .before .before in
+    let asked = start .pre .1 .0 in (
+      omega (arith, start .pre .0),
+      record {
+        promising = promising-of (asked .promising) (either-made (member (c .before .before .before .grown .result)) (member (start .args .first)) (c .before .before .before .grown .ensures .promising .within) (λ i h. rw (asked .all-asking) at (start .pre .1 .1 i h)));
+        fit = c .before .before .before .grown .ensures .fit;
+        deep = asked .deep;
+        room = room-kept (c .before .before .before .grown .kept .1 .1 .1 .1 .1 .1 .0) (asked .room);
+        memory = c .before .before .before .grown .ensures .memory;
+      },
+    )
+
+seeded-grown-requires-3 : (t : ℕ) → seeded-lts.Need-grown-requires-3 (seeded-calls t) (seeded-at t) seeded.Post
+seeded-grown-requires-3 t c κs =
+    let start = c .before .before .before .before .before .before .before .before .before .before .before .before .before .before in
+    let asked = start .pre .1 .0 in (
+      omega (arith, start .pre .0),
+      record {
+        promising = promising-of (asked .promising) (either-made (member (c .before .before .before .grown2 .result)) (member (start .args .second)) (c .before .before .before .grown2 .ensures .promising .within) (λ i h. rw (asked .all-asking) at (start .pre .1 .2 i h)));
+        fit = c .before .before .before .grown2 .ensures .fit;
+        deep = asked .deep;
+        room = room-kept (c .before .before .before .grown2 .kept .1 .1 .1 .1 .1 .1 .0 ∙ c .before .before .before .before .before .before .before .grown .kept .1 .1 .1 .1 .1 .1 .0) (asked .room);
+        memory = c .before .before .before .grown2 .ensures .memory;
+      },
+    )
+
+seeded-grown-requires-4 : (t : ℕ) → seeded-lts.Need-grown-requires-4 (seeded-calls t) (seeded-at t) seeded.Post
+seeded-grown-requires-4 t c κs =
+    let start = c .before .before .before .before .before .before .before .before .before .before .before .before .before .before .before .before .before .before in
+    let asked = start .pre .1 .0 in (
+      omega (arith, start .pre .0),
+      record {
+        promising = promising-of (asked .promising) (either-made (member (c .before .before .before .grown3 .result)) (member (start .args .all)) (c .before .before .before .grown3 .ensures .promising .within) (λ i h. rw (asked .all-asking) at h));
+        fit = c .before .before .before .grown3 .ensures .fit;
+        deep = asked .deep;
+        room = room-kept (c .before .before .before .grown3 .kept .1 .1 .1 .1 .1 .1 .0 ∙ c .before .before .before .before .before .before .before .grown2 .kept .1 .1 .1 .1 .1 .1 .0 ∙ c .before .before .before .before .before .before .before .before .before .before .before .grown .kept .1 .1 .1 .1 .1 .1 .0) (asked .room);
+        memory = c .before .before .before .grown3 .ensures .memory;
+      },
+    )
+
+seeded-same-length : (t : ℕ) → seeded-lts.Need-same-length (seeded-calls t) (seeded-at t) seeded.Post
+seeded-same-length t c = c .before .before .grown4 .kept .1 .1 .1 .1 .1 .1 .0 ∙ c .before .before .before .before .before .before .grown3 .kept .1 .1 .1 .1 .1 .1 .0 ∙ c .before .before .before .before .before .before .before .before .before .before .grown2 .kept .1 .1 .1 .1 .1 .1 .0 ∙ c .before .before .before .before .before .before .before .before .before .before .before .before .before .before .grown .kept .1 .1 .1 .1 .1 .1 .0
+
+seeded-returns : (t : ℕ) → seeded-lts.Need-returns (seeded-calls t) (seeded-at t) seeded.Post
+seeded-returns t c =
+    let last = c .before .before .grown4 .ensures in
+    record { promising = last .promising; fit = last .fit; same = last .same ∙ c .before .before .before .before .before .before .grown3 .ensures .same ∙ c .before .before .before .before .before .before .before .before .before .before .grown2 .ensures .same ∙ c .before .before .before .before .before .before .before .before .before .before .before .before .before .before .grown .ensures .same; memory = last .memory }
+
+pub +branches+by-asking+by-columns+by-core+by-list+by-lists+by-more+can-keep+case-holds+column+columns+core-of+enriched+greedy+grown+grown-by+keeps+largest+leaf+opposed+refuted+relation+relations+said-by+seeded+solve+split+without+world-spec :
     {M : Type 1} → statement M
-+branches+by-asking+by-columns+by-core+by-list+by-lists+can-keep+case-holds+column+columns+core-of+greedy+grown+grown-by+keeps+largest+leaf+opposed+refuted+relation+relations+said-by+solve+split+without+world-spec =
++branches+by-asking+by-columns+by-core+by-list+by-lists+by-more+can-keep+case-holds+column+columns+core-of+enriched+greedy+grown+grown-by+keeps+largest+leaf+opposed+refuted+relation+relations+said-by+seeded+solve+split+without+world-spec =
     close
     μ-branches
     μ-by-asking
@@ -2504,11 +2780,13 @@ pub +branches+by-asking+by-columns+by-core+by-list+by-lists+can-keep+case-holds+
     μ-by-core
     μ-by-list
     μ-by-lists
+    μ-by-more
     μ-can-keep
     μ-case-holds
     μ-column
     μ-columns
     μ-core-of
+    μ-enriched
     μ-greedy
     μ-grown
     μ-grown-by
@@ -2520,6 +2798,7 @@ pub +branches+by-asking+by-columns+by-core+by-list+by-lists+can-keep+case-holds+
     μ-relation
     μ-relations
     μ-said-by
+    μ-seeded
     μ-solve
     μ-split
     μ-without
@@ -2576,6 +2855,7 @@ pub +branches+by-asking+by-columns+by-core+by-list+by-lists+can-keep+case-holds+
     (by-columns-selected-requires t)
     (by-columns-same-length t)
     (by-columns-returns t)
+    (by-columns-by-more-requires t)
     (by-columns-enum-known-s t)
     (by-columns-without-requires t)
     (by-columns-same-length-2 t)
@@ -2640,6 +2920,19 @@ pub +branches+by-asking+by-columns+by-core+by-list+by-lists+can-keep+case-holds+
     (by-lists-returns-2 t)
     (by-lists-same-length-3 t)
     (by-lists-returns-3 t))
+    (λ t. by-more-lts.spec (by-more-calls t)
+    (by-more-at t)
+    by-more.Post
+    (by-more-columns-requires t)
+    (by-more-enum-known-k t)
+    (by-more-same-length t)
+    (by-more-returns t)
+    (by-more-enriched-requires t)
+    (by-more-selected-requires t)
+    (by-more-same-length-2 t)
+    (by-more-returns-2 t)
+    (by-more-same-length-3 t)
+    (by-more-returns-3 t))
     (λ t. can-keep-lts.spec (can-keep-calls t)
     (can-keep-at t)
     can-keep.Post
@@ -2735,6 +3028,23 @@ pub +branches+by-asking+by-columns+by-core+by-list+by-lists+can-keep+case-holds+
     (core-of-loop-again t)
     (core-of-loop-less-2 t)
     (core-of-loop-again-2 t))
+    (λ t. enriched-lts.spec (enriched-calls t)
+    (enriched-at t)
+    enriched.Post
+    enriched-Inv-loop
+    enriched-μ-loop
+    (enriched-loop-holds t)
+    (enriched-highest-requires t)
+    (enriched-enum-known-i t)
+    (enriched-enum-told t)
+    (enriched-same-length t)
+    (enriched-returns t)
+    (enriched-without-requires t)
+    (enriched-minus-requires t)
+    (enriched-seeded-requires t)
+    (enriched-also-new-requires t)
+    (enriched-loop-less t)
+    (enriched-loop-again t))
     (λ t. greedy-lts.spec (greedy-calls t)
     (greedy-at t)
     greedy.Post
@@ -2912,6 +3222,18 @@ pub +branches+by-asking+by-columns+by-core+by-list+by-lists+can-keep+case-holds+
     (said-by-returns t)
     (said-by-same-length-2 t)
     (said-by-returns-2 t))
+    (λ t. seeded-lts.spec (seeded-calls t)
+    (seeded-at t)
+    seeded.Post
+    (seeded-closed-requires t)
+    (seeded-intersection-requires t)
+    (seeded-empty-requires t)
+    (seeded-grown-requires t)
+    (seeded-grown-requires-2 t)
+    (seeded-grown-requires-3 t)
+    (seeded-grown-requires-4 t)
+    (seeded-same-length t)
+    (seeded-returns t))
     (λ t. solve-lts.spec (solve-calls t)
     (solve-at t)
     solve.Post
