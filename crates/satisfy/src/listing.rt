@@ -125,6 +125,17 @@ pub fn highest_of(set: Set) -> Set
     set.minus(set.without(i))
 }
 
+// The same, of those that come first, if there are any.
+pub fn foremost(set: Set, first: Set) -> Set
+    ensures { λ r. ⌜ Within (member r) (member set) ⌝ }
+{
+    let common = set.intersection(first);
+    if common.is_empty() {
+        return highest_of(set);
+    }
+    highest_of(common)
+}
+
 // The divisor of weights that refute that k listed sets give a solution, or 0: they stand in the words behind the list then.
 pub fn weighs(
     entries: &[u64],

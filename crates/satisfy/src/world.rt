@@ -25,7 +25,7 @@ use crate::listing::also;
 use crate::listing::also_new;
 use crate::listing::blamed;
 use crate::listing::blamed_behind;
-use crate::listing::highest_of;
+use crate::listing::foremost;
 use crate::listing::is_short;
 use crate::listing::known;
 use crate::listing::narrowed;
@@ -222,7 +222,7 @@ fn solve(
     if opposed(entries, q, all, depth, level, work) {
         return false;
     }
-    if greedy(entries, q, all, depth, level, work) {
+    if greedy(entries, q, all, all, depth, level, work) {
         return true;
     }
     match by_lists(entries, q, all, depth, level, work) {
@@ -358,7 +358,8 @@ fn by_columns(
 }
 
 // What more sets say, where those that weights ask for give no solution and no weights refute them: besides those, one that is
-// grown from each promise. They are listed anew, since the search for a solution has taken up the words behind the list.
+// grown from each promise. They are listed anew, since the search for a solution has taken up the words behind the list. If they
+// give none either, needs are served greedily in other orders.
 fn by_more(
     entries: &[u64],
     q: Question,
@@ -377,7 +378,34 @@ fn by_more(
     if selected(entries, q, all, listed, depth, level, work) {
         return Said::Yes;
     }
+    if greedy_anew(entries, q, all, depth, level, work) {
+        return Said::Yes;
+    }
     Said::Nothing
+}
+
+// Whether a solution is found greedily in one of several orders: with the needs below each entry first.
+fn greedy_anew(
+    entries: &[u64],
+    q: Question,
+    all: Set,
+    depth: usize,
+    level: usize,
+    work: &mut [u64],
+) -> bool
+    requires { ⌜ ProblemAsked (problemOf (now entries) q) all depth level (now work) ⌝ }
+    ensures { λ r. ⌜ GreedyIs (problemOf (now (entries .entry)) q) depth level (now (work .exit)) r ⌝ }
+{
+    let mut rest = all;
+    loop {
+        let Highest::At(i) = rest.highest() else {
+            return false;
+        };
+        rest = rest.without(i);
+        if greedy(entries, q, all, rest, depth, level, work) {
+            return true;
+        }
+    }
 }
 
 // Lists more sets behind k others, one that is grown from each promise, and tells how many are listed then.
@@ -515,12 +543,14 @@ fn column(
     }
 }
 
-// Whether a solution is found by serving one need after the other, each with a set that is grown as far as it can be kept:
-// first by the need, then by limits without room, by unmet needs, and by all. Where that does not get on, nothing is known.
+// Whether a solution is found by serving one need after the other, those that come first before others, each with a set that is
+// grown as far as it can be kept: first by the need, then by limits without room, by unmet needs, and by all. Where that does not
+// get on, nothing is known.
 fn greedy(
     entries: &[u64],
     q: Question,
     all: Set,
+    first: Set,
     depth: usize,
     level: usize,
     work: &mut [u64],
@@ -539,7 +569,7 @@ fn greedy(
             entries,
             q,
             Set::empty(),
-            highest_of(open),
+            foremost(open, first),
             depth,
             level,
             work,

@@ -1,6 +1,3 @@
--- The functions that call each other meet their contracts. Why a world's answer is right: what follows without a split takes no world
--- away; the two cases of a split leave none out; where nothing is pending, solutions of all relations make a world; and a solution is
--- found, or shown not to be, by lists of sets that can be kept, or by trying them all.
 use Prim.Native.Nat.{ℕ, suc, _+_, _-_, _*_, _<_, _≤_}
 use mathlib.Core.Bool.{Bool, true, false≢true}
 use borrow.Author.Tests.{not-true, not-false}
@@ -57,91 +54,94 @@ use borrow.Fn.Kinds.{In}
 use borrow.Fn.PlainCycle.{Measures, is, falls, and}
 use Rattle.satisfy.proofs.world.branches.Reads as branches
 use Rattle.satisfy.proofs.world.branches.Kinds as branches-kinds
-use Rattle.satisfy.proofs.world.+branches+by_asking+by_columns+by_core+by_list+by_lists+by_more+can_keep+case_holds+column+columns+core_of+enriched+greedy+grown+grown_by+keeps+largest+leaf+opposed+refuted+relation+relations+said_by+seeded+solve+split+without+world.Lts-branches as branches-lts
+use Rattle.satisfy.proofs.world.+branches+by_asking+by_columns+by_core+by_list+by_lists+by_more+can_keep+case_holds+column+columns+core_of+enriched+greedy+greedy_anew+grown+grown_by+keeps+largest+leaf+opposed+refuted+relation+relations+said_by+seeded+solve+split+without+world.Lts-branches as branches-lts
 use Rattle.satisfy.proofs.world.by_asking.Reads as by-asking
 use Rattle.satisfy.proofs.world.by_asking.Kinds as by-asking-kinds
-use Rattle.satisfy.proofs.world.+branches+by_asking+by_columns+by_core+by_list+by_lists+by_more+can_keep+case_holds+column+columns+core_of+enriched+greedy+grown+grown_by+keeps+largest+leaf+opposed+refuted+relation+relations+said_by+seeded+solve+split+without+world.Lts-by_asking as by-asking-lts
+use Rattle.satisfy.proofs.world.+branches+by_asking+by_columns+by_core+by_list+by_lists+by_more+can_keep+case_holds+column+columns+core_of+enriched+greedy+greedy_anew+grown+grown_by+keeps+largest+leaf+opposed+refuted+relation+relations+said_by+seeded+solve+split+without+world.Lts-by_asking as by-asking-lts
 use Rattle.satisfy.proofs.world.by_columns.Reads as by-columns
 use Rattle.satisfy.proofs.world.by_columns.Kinds as by-columns-kinds
-use Rattle.satisfy.proofs.world.+branches+by_asking+by_columns+by_core+by_list+by_lists+by_more+can_keep+case_holds+column+columns+core_of+enriched+greedy+grown+grown_by+keeps+largest+leaf+opposed+refuted+relation+relations+said_by+seeded+solve+split+without+world.Lts-by_columns as by-columns-lts
+use Rattle.satisfy.proofs.world.+branches+by_asking+by_columns+by_core+by_list+by_lists+by_more+can_keep+case_holds+column+columns+core_of+enriched+greedy+greedy_anew+grown+grown_by+keeps+largest+leaf+opposed+refuted+relation+relations+said_by+seeded+solve+split+without+world.Lts-by_columns as by-columns-lts
 use Rattle.satisfy.proofs.world.by_core.Reads as by-core
 use Rattle.satisfy.proofs.world.by_core.Kinds as by-core-kinds
-use Rattle.satisfy.proofs.world.+branches+by_asking+by_columns+by_core+by_list+by_lists+by_more+can_keep+case_holds+column+columns+core_of+enriched+greedy+grown+grown_by+keeps+largest+leaf+opposed+refuted+relation+relations+said_by+seeded+solve+split+without+world.Lts-by_core as by-core-lts
+use Rattle.satisfy.proofs.world.+branches+by_asking+by_columns+by_core+by_list+by_lists+by_more+can_keep+case_holds+column+columns+core_of+enriched+greedy+greedy_anew+grown+grown_by+keeps+largest+leaf+opposed+refuted+relation+relations+said_by+seeded+solve+split+without+world.Lts-by_core as by-core-lts
 use Rattle.satisfy.proofs.world.by_list.Reads as by-list
 use Rattle.satisfy.proofs.world.by_list.Kinds as by-list-kinds
-use Rattle.satisfy.proofs.world.+branches+by_asking+by_columns+by_core+by_list+by_lists+by_more+can_keep+case_holds+column+columns+core_of+enriched+greedy+grown+grown_by+keeps+largest+leaf+opposed+refuted+relation+relations+said_by+seeded+solve+split+without+world.Lts-by_list as by-list-lts
+use Rattle.satisfy.proofs.world.+branches+by_asking+by_columns+by_core+by_list+by_lists+by_more+can_keep+case_holds+column+columns+core_of+enriched+greedy+greedy_anew+grown+grown_by+keeps+largest+leaf+opposed+refuted+relation+relations+said_by+seeded+solve+split+without+world.Lts-by_list as by-list-lts
 use Rattle.satisfy.proofs.world.by_lists.Reads as by-lists
 use Rattle.satisfy.proofs.world.by_lists.Kinds as by-lists-kinds
-use Rattle.satisfy.proofs.world.+branches+by_asking+by_columns+by_core+by_list+by_lists+by_more+can_keep+case_holds+column+columns+core_of+enriched+greedy+grown+grown_by+keeps+largest+leaf+opposed+refuted+relation+relations+said_by+seeded+solve+split+without+world.Lts-by_lists as by-lists-lts
+use Rattle.satisfy.proofs.world.+branches+by_asking+by_columns+by_core+by_list+by_lists+by_more+can_keep+case_holds+column+columns+core_of+enriched+greedy+greedy_anew+grown+grown_by+keeps+largest+leaf+opposed+refuted+relation+relations+said_by+seeded+solve+split+without+world.Lts-by_lists as by-lists-lts
 use Rattle.satisfy.proofs.world.by_more.Reads as by-more
 use Rattle.satisfy.proofs.world.by_more.Kinds as by-more-kinds
-use Rattle.satisfy.proofs.world.+branches+by_asking+by_columns+by_core+by_list+by_lists+by_more+can_keep+case_holds+column+columns+core_of+enriched+greedy+grown+grown_by+keeps+largest+leaf+opposed+refuted+relation+relations+said_by+seeded+solve+split+without+world.Lts-by_more as by-more-lts
+use Rattle.satisfy.proofs.world.+branches+by_asking+by_columns+by_core+by_list+by_lists+by_more+can_keep+case_holds+column+columns+core_of+enriched+greedy+greedy_anew+grown+grown_by+keeps+largest+leaf+opposed+refuted+relation+relations+said_by+seeded+solve+split+without+world.Lts-by_more as by-more-lts
 use Rattle.satisfy.proofs.world.can_keep.Reads as can-keep
 use Rattle.satisfy.proofs.world.can_keep.Kinds as can-keep-kinds
-use Rattle.satisfy.proofs.world.+branches+by_asking+by_columns+by_core+by_list+by_lists+by_more+can_keep+case_holds+column+columns+core_of+enriched+greedy+grown+grown_by+keeps+largest+leaf+opposed+refuted+relation+relations+said_by+seeded+solve+split+without+world.Lts-can_keep as can-keep-lts
+use Rattle.satisfy.proofs.world.+branches+by_asking+by_columns+by_core+by_list+by_lists+by_more+can_keep+case_holds+column+columns+core_of+enriched+greedy+greedy_anew+grown+grown_by+keeps+largest+leaf+opposed+refuted+relation+relations+said_by+seeded+solve+split+without+world.Lts-can_keep as can-keep-lts
 use Rattle.satisfy.proofs.world.case_holds.Reads as case-holds
 use Rattle.satisfy.proofs.world.case_holds.Kinds as case-holds-kinds
-use Rattle.satisfy.proofs.world.+branches+by_asking+by_columns+by_core+by_list+by_lists+by_more+can_keep+case_holds+column+columns+core_of+enriched+greedy+grown+grown_by+keeps+largest+leaf+opposed+refuted+relation+relations+said_by+seeded+solve+split+without+world.Lts-case_holds as case-holds-lts
+use Rattle.satisfy.proofs.world.+branches+by_asking+by_columns+by_core+by_list+by_lists+by_more+can_keep+case_holds+column+columns+core_of+enriched+greedy+greedy_anew+grown+grown_by+keeps+largest+leaf+opposed+refuted+relation+relations+said_by+seeded+solve+split+without+world.Lts-case_holds as case-holds-lts
 use Rattle.satisfy.proofs.world.column.Reads as column
 use Rattle.satisfy.proofs.world.column.Kinds as column-kinds
-use Rattle.satisfy.proofs.world.+branches+by_asking+by_columns+by_core+by_list+by_lists+by_more+can_keep+case_holds+column+columns+core_of+enriched+greedy+grown+grown_by+keeps+largest+leaf+opposed+refuted+relation+relations+said_by+seeded+solve+split+without+world.Lts-column as column-lts
+use Rattle.satisfy.proofs.world.+branches+by_asking+by_columns+by_core+by_list+by_lists+by_more+can_keep+case_holds+column+columns+core_of+enriched+greedy+greedy_anew+grown+grown_by+keeps+largest+leaf+opposed+refuted+relation+relations+said_by+seeded+solve+split+without+world.Lts-column as column-lts
 use Rattle.satisfy.proofs.world.columns.Reads as columns
 use Rattle.satisfy.proofs.world.columns.Kinds as columns-kinds
-use Rattle.satisfy.proofs.world.+branches+by_asking+by_columns+by_core+by_list+by_lists+by_more+can_keep+case_holds+column+columns+core_of+enriched+greedy+grown+grown_by+keeps+largest+leaf+opposed+refuted+relation+relations+said_by+seeded+solve+split+without+world.Lts-columns as columns-lts
+use Rattle.satisfy.proofs.world.+branches+by_asking+by_columns+by_core+by_list+by_lists+by_more+can_keep+case_holds+column+columns+core_of+enriched+greedy+greedy_anew+grown+grown_by+keeps+largest+leaf+opposed+refuted+relation+relations+said_by+seeded+solve+split+without+world.Lts-columns as columns-lts
 use Rattle.satisfy.proofs.world.core_of.Reads as core-of
 use Rattle.satisfy.proofs.world.core_of.Kinds as core-of-kinds
-use Rattle.satisfy.proofs.world.+branches+by_asking+by_columns+by_core+by_list+by_lists+by_more+can_keep+case_holds+column+columns+core_of+enriched+greedy+grown+grown_by+keeps+largest+leaf+opposed+refuted+relation+relations+said_by+seeded+solve+split+without+world.Lts-core_of as core-of-lts
+use Rattle.satisfy.proofs.world.+branches+by_asking+by_columns+by_core+by_list+by_lists+by_more+can_keep+case_holds+column+columns+core_of+enriched+greedy+greedy_anew+grown+grown_by+keeps+largest+leaf+opposed+refuted+relation+relations+said_by+seeded+solve+split+without+world.Lts-core_of as core-of-lts
 use Rattle.satisfy.proofs.world.enriched.Reads as enriched
 use Rattle.satisfy.proofs.world.enriched.Kinds as enriched-kinds
-use Rattle.satisfy.proofs.world.+branches+by_asking+by_columns+by_core+by_list+by_lists+by_more+can_keep+case_holds+column+columns+core_of+enriched+greedy+grown+grown_by+keeps+largest+leaf+opposed+refuted+relation+relations+said_by+seeded+solve+split+without+world.Lts-enriched as enriched-lts
+use Rattle.satisfy.proofs.world.+branches+by_asking+by_columns+by_core+by_list+by_lists+by_more+can_keep+case_holds+column+columns+core_of+enriched+greedy+greedy_anew+grown+grown_by+keeps+largest+leaf+opposed+refuted+relation+relations+said_by+seeded+solve+split+without+world.Lts-enriched as enriched-lts
 use Rattle.satisfy.proofs.world.greedy.Reads as greedy
 use Rattle.satisfy.proofs.world.greedy.Kinds as greedy-kinds
-use Rattle.satisfy.proofs.world.+branches+by_asking+by_columns+by_core+by_list+by_lists+by_more+can_keep+case_holds+column+columns+core_of+enriched+greedy+grown+grown_by+keeps+largest+leaf+opposed+refuted+relation+relations+said_by+seeded+solve+split+without+world.Lts-greedy as greedy-lts
+use Rattle.satisfy.proofs.world.+branches+by_asking+by_columns+by_core+by_list+by_lists+by_more+can_keep+case_holds+column+columns+core_of+enriched+greedy+greedy_anew+grown+grown_by+keeps+largest+leaf+opposed+refuted+relation+relations+said_by+seeded+solve+split+without+world.Lts-greedy as greedy-lts
+use Rattle.satisfy.proofs.world.greedy_anew.Reads as greedy-anew
+use Rattle.satisfy.proofs.world.greedy_anew.Kinds as greedy-anew-kinds
+use Rattle.satisfy.proofs.world.+branches+by_asking+by_columns+by_core+by_list+by_lists+by_more+can_keep+case_holds+column+columns+core_of+enriched+greedy+greedy_anew+grown+grown_by+keeps+largest+leaf+opposed+refuted+relation+relations+said_by+seeded+solve+split+without+world.Lts-greedy_anew as greedy-anew-lts
 use Rattle.satisfy.proofs.world.grown.Reads as grown
 use Rattle.satisfy.proofs.world.grown.Kinds as grown-kinds
-use Rattle.satisfy.proofs.world.+branches+by_asking+by_columns+by_core+by_list+by_lists+by_more+can_keep+case_holds+column+columns+core_of+enriched+greedy+grown+grown_by+keeps+largest+leaf+opposed+refuted+relation+relations+said_by+seeded+solve+split+without+world.Lts-grown as grown-lts
+use Rattle.satisfy.proofs.world.+branches+by_asking+by_columns+by_core+by_list+by_lists+by_more+can_keep+case_holds+column+columns+core_of+enriched+greedy+greedy_anew+grown+grown_by+keeps+largest+leaf+opposed+refuted+relation+relations+said_by+seeded+solve+split+without+world.Lts-grown as grown-lts
 use Rattle.satisfy.proofs.world.grown_by.Reads as grown-by
 use Rattle.satisfy.proofs.world.grown_by.Kinds as grown-by-kinds
-use Rattle.satisfy.proofs.world.+branches+by_asking+by_columns+by_core+by_list+by_lists+by_more+can_keep+case_holds+column+columns+core_of+enriched+greedy+grown+grown_by+keeps+largest+leaf+opposed+refuted+relation+relations+said_by+seeded+solve+split+without+world.Lts-grown_by as grown-by-lts
+use Rattle.satisfy.proofs.world.+branches+by_asking+by_columns+by_core+by_list+by_lists+by_more+can_keep+case_holds+column+columns+core_of+enriched+greedy+greedy_anew+grown+grown_by+keeps+largest+leaf+opposed+refuted+relation+relations+said_by+seeded+solve+split+without+world.Lts-grown_by as grown-by-lts
 use Rattle.satisfy.proofs.world.keeps.Reads as keeps
 use Rattle.satisfy.proofs.world.keeps.Kinds as keeps-kinds
-use Rattle.satisfy.proofs.world.+branches+by_asking+by_columns+by_core+by_list+by_lists+by_more+can_keep+case_holds+column+columns+core_of+enriched+greedy+grown+grown_by+keeps+largest+leaf+opposed+refuted+relation+relations+said_by+seeded+solve+split+without+world.Lts-keeps as keeps-lts
+use Rattle.satisfy.proofs.world.+branches+by_asking+by_columns+by_core+by_list+by_lists+by_more+can_keep+case_holds+column+columns+core_of+enriched+greedy+greedy_anew+grown+grown_by+keeps+largest+leaf+opposed+refuted+relation+relations+said_by+seeded+solve+split+without+world.Lts-keeps as keeps-lts
 use Rattle.satisfy.proofs.world.largest.Reads as largest
 use Rattle.satisfy.proofs.world.largest.Kinds as largest-kinds
-use Rattle.satisfy.proofs.world.+branches+by_asking+by_columns+by_core+by_list+by_lists+by_more+can_keep+case_holds+column+columns+core_of+enriched+greedy+grown+grown_by+keeps+largest+leaf+opposed+refuted+relation+relations+said_by+seeded+solve+split+without+world.Lts-largest as largest-lts
+use Rattle.satisfy.proofs.world.+branches+by_asking+by_columns+by_core+by_list+by_lists+by_more+can_keep+case_holds+column+columns+core_of+enriched+greedy+greedy_anew+grown+grown_by+keeps+largest+leaf+opposed+refuted+relation+relations+said_by+seeded+solve+split+without+world.Lts-largest as largest-lts
 use Rattle.satisfy.proofs.world.leaf.Reads as leaf
 use Rattle.satisfy.proofs.world.leaf.Kinds as leaf-kinds
-use Rattle.satisfy.proofs.world.+branches+by_asking+by_columns+by_core+by_list+by_lists+by_more+can_keep+case_holds+column+columns+core_of+enriched+greedy+grown+grown_by+keeps+largest+leaf+opposed+refuted+relation+relations+said_by+seeded+solve+split+without+world.Lts-leaf as leaf-lts
+use Rattle.satisfy.proofs.world.+branches+by_asking+by_columns+by_core+by_list+by_lists+by_more+can_keep+case_holds+column+columns+core_of+enriched+greedy+greedy_anew+grown+grown_by+keeps+largest+leaf+opposed+refuted+relation+relations+said_by+seeded+solve+split+without+world.Lts-leaf as leaf-lts
 use Rattle.satisfy.proofs.world.opposed.Reads as opposed
 use Rattle.satisfy.proofs.world.opposed.Kinds as opposed-kinds
-use Rattle.satisfy.proofs.world.+branches+by_asking+by_columns+by_core+by_list+by_lists+by_more+can_keep+case_holds+column+columns+core_of+enriched+greedy+grown+grown_by+keeps+largest+leaf+opposed+refuted+relation+relations+said_by+seeded+solve+split+without+world.Lts-opposed as opposed-lts
+use Rattle.satisfy.proofs.world.+branches+by_asking+by_columns+by_core+by_list+by_lists+by_more+can_keep+case_holds+column+columns+core_of+enriched+greedy+greedy_anew+grown+grown_by+keeps+largest+leaf+opposed+refuted+relation+relations+said_by+seeded+solve+split+without+world.Lts-opposed as opposed-lts
 use Rattle.satisfy.proofs.world.refuted.Reads as refuted
 use Rattle.satisfy.proofs.world.refuted.Kinds as refuted-kinds
-use Rattle.satisfy.proofs.world.+branches+by_asking+by_columns+by_core+by_list+by_lists+by_more+can_keep+case_holds+column+columns+core_of+enriched+greedy+grown+grown_by+keeps+largest+leaf+opposed+refuted+relation+relations+said_by+seeded+solve+split+without+world.Lts-refuted as refuted-lts
+use Rattle.satisfy.proofs.world.+branches+by_asking+by_columns+by_core+by_list+by_lists+by_more+can_keep+case_holds+column+columns+core_of+enriched+greedy+greedy_anew+grown+grown_by+keeps+largest+leaf+opposed+refuted+relation+relations+said_by+seeded+solve+split+without+world.Lts-refuted as refuted-lts
 use Rattle.satisfy.proofs.world.relation.Reads as relation
 use Rattle.satisfy.proofs.world.relation.Kinds as relation-kinds
-use Rattle.satisfy.proofs.world.+branches+by_asking+by_columns+by_core+by_list+by_lists+by_more+can_keep+case_holds+column+columns+core_of+enriched+greedy+grown+grown_by+keeps+largest+leaf+opposed+refuted+relation+relations+said_by+seeded+solve+split+without+world.Lts-relation as relation-lts
+use Rattle.satisfy.proofs.world.+branches+by_asking+by_columns+by_core+by_list+by_lists+by_more+can_keep+case_holds+column+columns+core_of+enriched+greedy+greedy_anew+grown+grown_by+keeps+largest+leaf+opposed+refuted+relation+relations+said_by+seeded+solve+split+without+world.Lts-relation as relation-lts
 use Rattle.satisfy.proofs.world.relations.Reads as relations
 use Rattle.satisfy.proofs.world.relations.Kinds as relations-kinds
-use Rattle.satisfy.proofs.world.+branches+by_asking+by_columns+by_core+by_list+by_lists+by_more+can_keep+case_holds+column+columns+core_of+enriched+greedy+grown+grown_by+keeps+largest+leaf+opposed+refuted+relation+relations+said_by+seeded+solve+split+without+world.Lts-relations as relations-lts
+use Rattle.satisfy.proofs.world.+branches+by_asking+by_columns+by_core+by_list+by_lists+by_more+can_keep+case_holds+column+columns+core_of+enriched+greedy+greedy_anew+grown+grown_by+keeps+largest+leaf+opposed+refuted+relation+relations+said_by+seeded+solve+split+without+world.Lts-relations as relations-lts
 use Rattle.satisfy.proofs.world.said_by.Reads as said-by
 use Rattle.satisfy.proofs.world.said_by.Kinds as said-by-kinds
-use Rattle.satisfy.proofs.world.+branches+by_asking+by_columns+by_core+by_list+by_lists+by_more+can_keep+case_holds+column+columns+core_of+enriched+greedy+grown+grown_by+keeps+largest+leaf+opposed+refuted+relation+relations+said_by+seeded+solve+split+without+world.Lts-said_by as said-by-lts
+use Rattle.satisfy.proofs.world.+branches+by_asking+by_columns+by_core+by_list+by_lists+by_more+can_keep+case_holds+column+columns+core_of+enriched+greedy+greedy_anew+grown+grown_by+keeps+largest+leaf+opposed+refuted+relation+relations+said_by+seeded+solve+split+without+world.Lts-said_by as said-by-lts
 use Rattle.satisfy.proofs.world.seeded.Reads as seeded
 use Rattle.satisfy.proofs.world.seeded.Kinds as seeded-kinds
-use Rattle.satisfy.proofs.world.+branches+by_asking+by_columns+by_core+by_list+by_lists+by_more+can_keep+case_holds+column+columns+core_of+enriched+greedy+grown+grown_by+keeps+largest+leaf+opposed+refuted+relation+relations+said_by+seeded+solve+split+without+world.Lts-seeded as seeded-lts
+use Rattle.satisfy.proofs.world.+branches+by_asking+by_columns+by_core+by_list+by_lists+by_more+can_keep+case_holds+column+columns+core_of+enriched+greedy+greedy_anew+grown+grown_by+keeps+largest+leaf+opposed+refuted+relation+relations+said_by+seeded+solve+split+without+world.Lts-seeded as seeded-lts
 use Rattle.satisfy.proofs.world.solve.Reads as solve
 use Rattle.satisfy.proofs.world.solve.Kinds as solve-kinds
-use Rattle.satisfy.proofs.world.+branches+by_asking+by_columns+by_core+by_list+by_lists+by_more+can_keep+case_holds+column+columns+core_of+enriched+greedy+grown+grown_by+keeps+largest+leaf+opposed+refuted+relation+relations+said_by+seeded+solve+split+without+world.Lts-solve as solve-lts
+use Rattle.satisfy.proofs.world.+branches+by_asking+by_columns+by_core+by_list+by_lists+by_more+can_keep+case_holds+column+columns+core_of+enriched+greedy+greedy_anew+grown+grown_by+keeps+largest+leaf+opposed+refuted+relation+relations+said_by+seeded+solve+split+without+world.Lts-solve as solve-lts
 use Rattle.satisfy.proofs.world.split.Reads as split
 use Rattle.satisfy.proofs.world.split.Kinds as split-kinds
-use Rattle.satisfy.proofs.world.+branches+by_asking+by_columns+by_core+by_list+by_lists+by_more+can_keep+case_holds+column+columns+core_of+enriched+greedy+grown+grown_by+keeps+largest+leaf+opposed+refuted+relation+relations+said_by+seeded+solve+split+without+world.Lts-split as split-lts
+use Rattle.satisfy.proofs.world.+branches+by_asking+by_columns+by_core+by_list+by_lists+by_more+can_keep+case_holds+column+columns+core_of+enriched+greedy+greedy_anew+grown+grown_by+keeps+largest+leaf+opposed+refuted+relation+relations+said_by+seeded+solve+split+without+world.Lts-split as split-lts
 use Rattle.satisfy.proofs.world.without.Reads as without
 use Rattle.satisfy.proofs.world.without.Kinds as without-kinds
-use Rattle.satisfy.proofs.world.+branches+by_asking+by_columns+by_core+by_list+by_lists+by_more+can_keep+case_holds+column+columns+core_of+enriched+greedy+grown+grown_by+keeps+largest+leaf+opposed+refuted+relation+relations+said_by+seeded+solve+split+without+world.Lts-without as without-lts
+use Rattle.satisfy.proofs.world.+branches+by_asking+by_columns+by_core+by_list+by_lists+by_more+can_keep+case_holds+column+columns+core_of+enriched+greedy+greedy_anew+grown+grown_by+keeps+largest+leaf+opposed+refuted+relation+relations+said_by+seeded+solve+split+without+world.Lts-without as without-lts
 use Rattle.satisfy.proofs.world.world.Reads as world
 use Rattle.satisfy.proofs.world.world.Kinds as world-kinds
-use Rattle.satisfy.proofs.world.+branches+by_asking+by_columns+by_core+by_list+by_lists+by_more+can_keep+case_holds+column+columns+core_of+enriched+greedy+grown+grown_by+keeps+largest+leaf+opposed+refuted+relation+relations+said_by+seeded+solve+split+without+world.Lts-world as world-lts
+use Rattle.satisfy.proofs.world.+branches+by_asking+by_columns+by_core+by_list+by_lists+by_more+can_keep+case_holds+column+columns+core_of+enriched+greedy+greedy_anew+grown+grown_by+keeps+largest+leaf+opposed+refuted+relation+relations+said_by+seeded+solve+split+without+world.Lts-world as world-lts
 use Rattle.counting.proofs.bounds.met.Reads as met-reads
 use Rattle.counting.proofs.bounds.unmet.Reads as unmet-reads
 use Rattle.counting.proofs.bounds.used_up.Reads as used-up-reads
@@ -165,7 +165,7 @@ use Rattle.satisfy.proofs.listing.also.Reads as also-reads
 use Rattle.satisfy.proofs.listing.also_new.Reads as also-new-reads
 use Rattle.satisfy.proofs.listing.blamed.Reads as blamed-reads
 use Rattle.satisfy.proofs.listing.blamed_behind.Reads as blamed-behind-reads
-use Rattle.satisfy.proofs.listing.highest_of.Reads as highest-of-reads
+use Rattle.satisfy.proofs.listing.foremost.Reads as foremost-reads
 use Rattle.satisfy.proofs.listing.is_short.Reads as is-short-reads
 use Rattle.satisfy.proofs.listing.known.Reads as known-reads
 use Rattle.satisfy.proofs.listing.narrowed.Reads as narrowed-reads
@@ -189,8 +189,8 @@ use Rattle.sets.proofs.Set.minus.Reads as minus-reads
 use Rattle.sets.proofs.Set.union.Reads as union-reads
 use Rattle.sets.proofs.Set.with.Reads as with-reads
 use Rattle.sets.proofs.Set.without.Reads as without-reads
-use Rattle.satisfy.proofs.world.+branches+by_asking+by_columns+by_core+by_list+by_lists+by_more+can_keep+case_holds+column+columns+core_of+enriched+greedy+grown+grown_by+keeps+largest+leaf+opposed+refuted+relation+relations+said_by+seeded+solve+split+without+world.{statement}
-use Rattle.satisfy.proofs.world.+branches+by_asking+by_columns+by_core+by_list+by_lists+by_more+can_keep+case_holds+column+columns+core_of+enriched+greedy+grown+grown_by+keeps+largest+leaf+opposed+refuted+relation+relations+said_by+seeded+solve+split+without+world.Tie.{close}
+use Rattle.satisfy.proofs.world.+branches+by_asking+by_columns+by_core+by_list+by_lists+by_more+can_keep+case_holds+column+columns+core_of+enriched+greedy+greedy_anew+grown+grown_by+keeps+largest+leaf+opposed+refuted+relation+relations+said_by+seeded+solve+split+without+world.{statement}
+use Rattle.satisfy.proofs.world.+branches+by_asking+by_columns+by_core+by_list+by_lists+by_more+can_keep+case_holds+column+columns+core_of+enriched+greedy+greedy_anew+grown+grown_by+keeps+largest+leaf+opposed+refuted+relation+relations+said_by+seeded+solve+split+without+world.Tie.{close}
 
 -- The measure falls with the depth; within a world, with the bound on what is pending; and in a list, with the promises that are free.
 abbrev μ-branches : Measures 2 branches-kinds.ps ℕ
@@ -233,7 +233,10 @@ abbrev μ-enriched : Measures 2 enriched-kinds.ps ℕ
 μ-enriched κs a = a .1 .1 .1 .1 .0 * 512 + 8
 
 abbrev μ-greedy : Measures 2 greedy-kinds.ps ℕ
-μ-greedy κs a = a .1 .1 .1 .0 * 512 + 6
+μ-greedy κs a = a .1 .1 .1 .1 .0 * 512 + 6
+
+abbrev μ-greedy-anew : Measures 2 greedy-anew-kinds.ps ℕ
+μ-greedy-anew κs a = a .1 .1 .1 .0 * 512 + 7
 
 abbrev μ-grown : Measures 2 grown-kinds.ps ℕ
 μ-grown κs a = a .1 .1 .1 .1 .0 * 512 + 5
@@ -364,6 +367,12 @@ greedy-at t = and 2 greedy-kinds.ps (is 2 greedy-kinds.ps μ-greedy t) greedy.Pr
 abbrev greedy-below : ℕ → In 2 greedy-kinds.ps
 greedy-below t = and 2 greedy-kinds.ps (falls 2 greedy-kinds.ps _<_ μ-greedy t) greedy.Pre
 
+abbrev greedy-anew-at : ℕ → In 2 greedy-anew-kinds.ps
+greedy-anew-at t = and 2 greedy-anew-kinds.ps (is 2 greedy-anew-kinds.ps μ-greedy-anew t) greedy-anew.Pre
+
+abbrev greedy-anew-below : ℕ → In 2 greedy-anew-kinds.ps
+greedy-anew-below t = and 2 greedy-anew-kinds.ps (falls 2 greedy-anew-kinds.ps _<_ μ-greedy-anew t) greedy-anew.Pre
+
 abbrev grown-at : ℕ → In 2 grown-kinds.ps
 grown-at t = and 2 grown-kinds.ps (is 2 grown-kinds.ps μ-grown t) grown.Pre
 
@@ -481,7 +490,7 @@ by-lists-calls t =
 
 abbrev by-more-calls : ℕ → by-more-lts.Claims
 by-more-calls t =
-    (columns-below t, columns.Post, enriched-below t, enriched.Post, selected-reads.Asked, selected-reads.Learnt)
+    (columns-below t, columns.Post, enriched-below t, enriched.Post, selected-reads.Asked, selected-reads.Learnt, greedy-anew-below t, greedy-anew.Post)
 
 abbrev can-keep-calls : ℕ → can-keep-lts.Claims
 can-keep-calls t =
@@ -509,7 +518,11 @@ enriched-calls t =
 
 abbrev greedy-calls : ℕ → greedy-lts.Claims
 greedy-calls t =
-    (met-reads.Asked, met-reads.Learnt, unmet-reads.Asked, unmet-reads.Learnt, intersection-reads.Asked, intersection-reads.Learnt, used-up-reads.Asked, used-up-reads.Learnt, empty-reads.Asked, empty-reads.Learnt, highest-of-reads.Asked, highest-of-reads.Learnt, grown-below t, grown.Post, useful-reads.Asked, useful-reads.Learnt, put-slot-reads.Asked, put-slot-reads.Learnt)
+    (met-reads.Asked, met-reads.Learnt, unmet-reads.Asked, unmet-reads.Learnt, intersection-reads.Asked, intersection-reads.Learnt, used-up-reads.Asked, used-up-reads.Learnt, empty-reads.Asked, empty-reads.Learnt, foremost-reads.Asked, foremost-reads.Learnt, grown-below t, grown.Post, useful-reads.Asked, useful-reads.Learnt, put-slot-reads.Asked, put-slot-reads.Learnt)
+
+abbrev greedy-anew-calls : ℕ → greedy-anew-lts.Claims
+greedy-anew-calls t =
+    (highest-reads.Asked, highest-reads.Learnt, without-reads.Asked, without-reads.Learnt, greedy-below t, greedy.Post)
 
 abbrev grown-calls : ℕ → grown-lts.Claims
 grown-calls t =
@@ -1420,13 +1433,13 @@ solve-enum-told : (t : ℕ) → solve-lts.Need-enum-told (solve-calls t) (solve-
 solve-enum-told t c = search needs
 
 solve-same-length-3 : (t : ℕ) → solve-lts.Need-same-length-3 (solve-calls t) (solve-at t) solve.Post
-solve-same-length-3 t c = c .before .before .before .greedy .kept .1 .1 .1 .1 .1 .0 ∙ c .before .before .before .before .before .before .before .before .opposed .kept .1 .1 .1 .1 .1 .0 ∙ c .before .before .before .before .before .before .before .before .before .before .before .before .before .keeps .kept .1 .1 .1 .1 .1 .0
+solve-same-length-3 t c = c .before .before .before .greedy .kept .1 .1 .1 .1 .1 .1 .0 ∙ c .before .before .before .before .before .before .before .before .opposed .kept .1 .1 .1 .1 .1 .0 ∙ c .before .before .before .before .before .before .before .before .before .before .before .before .before .keeps .kept .1 .1 .1 .1 .1 .0
 
 solve-returns-3 : (t : ℕ) → solve-lts.Need-returns-3 (solve-calls t) (solve-at t) solve.Post
 solve-returns-3 t c = (c .before .before .before .greedy .ensures .answers (c .if3 .taken), c .before .before .before .greedy .ensures .memory)
 
 solve-same-length-4 : (t : ℕ) → solve-lts.Need-same-length-4 (solve-calls t) (solve-at t) solve.Post
-solve-same-length-4 t c = c .before .before .before .before .by-lists .kept .1 .1 .1 .1 .1 .0 ∙ c .before .before .before .before .before .before .before .before .before .greedy .kept .1 .1 .1 .1 .1 .0 ∙ c .before .before .before .before .before .before .before .before .before .before .before .before .before .before .opposed .kept .1 .1 .1 .1 .1 .0 ∙ c .before .before .before .before .before .before .before .before .before .before .before .before .before .before .before .before .before .before .before .keeps .kept .1 .1 .1 .1 .1 .0
+solve-same-length-4 t c = c .before .before .before .before .by-lists .kept .1 .1 .1 .1 .1 .0 ∙ c .before .before .before .before .before .before .before .before .before .greedy .kept .1 .1 .1 .1 .1 .1 .0 ∙ c .before .before .before .before .before .before .before .before .before .before .before .before .before .before .opposed .kept .1 .1 .1 .1 .1 .0 ∙ c .before .before .before .before .before .before .before .before .before .before .before .before .before .before .before .before .before .before .before .keeps .kept .1 .1 .1 .1 .1 .0
 
 solve-returns-4 : (t : ℕ) → solve-lts.Need-returns-4 (solve-calls t) (solve-at t) solve.Post
 solve-returns-4 t c = rw (c .enum-told .given .1) at (c .before .before .before .before .by-lists .ensures)
@@ -1634,11 +1647,11 @@ grown-returns : (t : ℕ) → grown-lts.Need-returns (grown-calls t) (grown-at t
 grown-returns t c = c .before .before .grown-by .ensures
 
 abbrev greedy-Inv-loop : greedy-lts.InvT-loop
-greedy-Inv-loop entries q all depth level work₀ slots₀ work slots =
+greedy-Inv-loop entries q all first depth level work₀ slots₀ work slots =
     Taken (problemOf entries q) slots work × (length work ≡ length work₀) × Remembers (wideAt entries) depth level work
 
 abbrev greedy-μ-loop : greedy-lts.MeasureT-loop
-greedy-μ-loop entries q all depth level work₀ slots₀ work slots = gradeSum (wideAt entries) (length entries) - slots
+greedy-μ-loop entries q all first depth level work₀ slots₀ work slots = gradeSum (wideAt entries) (length entries) - slots
 
 greedy-loop-holds : (t : ℕ) → greedy-lts.Need-loop-holds (greedy-calls t) (greedy-at t) greedy.Post greedy-Inv-loop greedy-μ-loop
 greedy-loop-holds t c = let a = c .before .before .args in (taken-none (problemOf (a .entries .now) (a .q)) (a .work .now), refl, c .before .before .pre .1 .memory)
@@ -1677,8 +1690,8 @@ greedy-intersection-requires-2 t c κs = search needs
 greedy-empty-requires : (t : ℕ) → greedy-lts.Need-empty-requires (greedy-calls t) (greedy-at t) greedy.Post greedy-Inv-loop greedy-μ-loop
 greedy-empty-requires t c κs = search needs
 
-greedy-highest-of-requires : (t : ℕ) → greedy-lts.Need-highest-of-requires (greedy-calls t) (greedy-at t) greedy.Post greedy-Inv-loop greedy-μ-loop
-greedy-highest-of-requires t c κs = search needs
+greedy-foremost-requires : (t : ℕ) → greedy-lts.Need-foremost-requires (greedy-calls t) (greedy-at t) greedy.Post greedy-Inv-loop greedy-μ-loop
+greedy-foremost-requires t c κs = search needs
 
 -- all sets that are tried are of needs and limits
 all-asks : (t : ℕ) (c : greedy-lts.At-loop (greedy-calls t) (greedy-at t) greedy.Post greedy-Inv-loop greedy-μ-loop) → Within (member (c .before .before .before .args .all)) (asking (problemOf (c .before .before .before .args .entries .now) (c .before .before .before .args .q)))
@@ -1698,7 +1711,7 @@ greedy-grown-requires t c κs =
     let nothing-in : Within (member (c .before .before .empty .result)) (asking (problemOf (start .args .entries .now) (start .args .q))) = rw (c .before .before .empty .ensures) (λ i h. absurd (false≢true h)) in (
       omega (arith, start .pre .0),
       record {
-        promising = promising-of (asked .promising) (either-made (member (c .before .before .empty .result)) (member (c .before .highest-of .result)) nothing-in (λ i h. open-asks t (c .before .before .before) i (c .before .highest-of .ensures i h)));
+        promising = promising-of (asked .promising) (either-made (member (c .before .before .empty .result)) (member (c .before .foremost .result)) nothing-in (λ i h. open-asks t (c .before .before .before) i (c .before .foremost .ensures i h)));
         fit = inl (c .before .before .empty .ensures);
         deep = asked .deep;
         room = room-kept (inv .1) (asked .room);
@@ -1810,7 +1823,7 @@ solve-greedy-requires t c κs =
     (omega (arith, start .pre .0), record { promising = asked .promising; deep = asked .deep; all-asking = asked .all-asking; room = room-kept (c .before .before .before .before .opposed .kept .1 .1 .1 .1 .1 .0 ∙ c .before .before .before .before .before .before .before .before .before .keeps .kept .1 .1 .1 .1 .1 .0) (asked .room); memory = c .before .before .before .before .opposed .ensures .memory })
 
 solve-same-length-5 : (t : ℕ) → solve-lts.Need-same-length-5 (solve-calls t) (solve-at t) solve.Post
-solve-same-length-5 t c = c .before .before .before .before .by-lists .kept .1 .1 .1 .1 .1 .0 ∙ c .before .before .before .before .before .before .before .before .before .greedy .kept .1 .1 .1 .1 .1 .0 ∙ c .before .before .before .before .before .before .before .before .before .before .before .before .before .before .opposed .kept .1 .1 .1 .1 .1 .0 ∙ c .before .before .before .before .before .before .before .before .before .before .before .before .before .before .before .before .before .before .before .keeps .kept .1 .1 .1 .1 .1 .0
+solve-same-length-5 t c = c .before .before .before .before .by-lists .kept .1 .1 .1 .1 .1 .0 ∙ c .before .before .before .before .before .before .before .before .before .greedy .kept .1 .1 .1 .1 .1 .1 .0 ∙ c .before .before .before .before .before .before .before .before .before .before .before .before .before .before .opposed .kept .1 .1 .1 .1 .1 .0 ∙ c .before .before .before .before .before .before .before .before .before .before .before .before .before .before .before .before .before .before .before .keeps .kept .1 .1 .1 .1 .1 .0
 
 solve-returns-5 : (t : ℕ) → solve-lts.Need-returns-5 (solve-calls t) (solve-at t) solve.Post
 solve-returns-5 t c = rw (c .enum-told2 .given .1) at (c .before .before .before .before .by-lists .ensures)
@@ -1882,7 +1895,7 @@ solve-by-lists-requires : (t : ℕ) → solve-lts.Need-by-lists-requires (solve-
 solve-by-lists-requires t c κs =
     let start = (c .before .before .before .before .before .before .before .before .before .before .before .before .before .before .before .before .before .before) in
     let asked = start .pre .1 in
-    (omega (arith, start .pre .0), record { promising = asked .promising; deep = asked .deep; all-asking = asked .all-asking; room = room-kept (c .before .before .before .before .greedy .kept .1 .1 .1 .1 .1 .0 ∙ c .before .before .before .before .before .before .before .before .before .opposed .kept .1 .1 .1 .1 .1 .0 ∙ c .before .before .before .before .before .before .before .before .before .before .before .before .before .before .keeps .kept .1 .1 .1 .1 .1 .0) (asked .room); memory = c .before .before .before .before .greedy .ensures .memory })
+    (omega (arith, start .pre .0), record { promising = asked .promising; deep = asked .deep; all-asking = asked .all-asking; room = room-kept (c .before .before .before .before .greedy .kept .1 .1 .1 .1 .1 .1 .0 ∙ c .before .before .before .before .before .before .before .before .before .opposed .kept .1 .1 .1 .1 .1 .0 ∙ c .before .before .before .before .before .before .before .before .before .before .before .before .before .before .keeps .kept .1 .1 .1 .1 .1 .0) (asked .room); memory = c .before .before .before .before .greedy .ensures .memory })
 
 solve-enum-told-2 : (t : ℕ) → solve-lts.Need-enum-told-2 (solve-calls t) (solve-at t) solve.Post
 solve-enum-told-2 t c = search needs
@@ -1894,10 +1907,10 @@ solve-by-asking-requires : (t : ℕ) → solve-lts.Need-by-asking-requires (solv
 solve-by-asking-requires t c κs =
     let start = (c .before .before .before .before .before .before .before .before .before .before .before .before .before .before .before .before .before .before .before .before .before .before .before .before) in
     let asked = start .pre .1 in
-    (omega (arith, start .pre .0), record { promising = asked .promising; deep = asked .deep; all-asking = asked .all-asking; room = room-kept (c .before .before .before .before .before .by-lists .kept .1 .1 .1 .1 .1 .0 ∙ c .before .before .before .before .before .before .before .before .before .before .greedy .kept .1 .1 .1 .1 .1 .0 ∙ c .before .before .before .before .before .before .before .before .before .before .before .before .before .before .before .opposed .kept .1 .1 .1 .1 .1 .0 ∙ c .before .before .before .before .before .before .before .before .before .before .before .before .before .before .before .before .before .before .before .before .keeps .kept .1 .1 .1 .1 .1 .0) (asked .room); memory = c .before .before .before .before .before .by-lists .ensures .1 })
+    (omega (arith, start .pre .0), record { promising = asked .promising; deep = asked .deep; all-asking = asked .all-asking; room = room-kept (c .before .before .before .before .before .by-lists .kept .1 .1 .1 .1 .1 .0 ∙ c .before .before .before .before .before .before .before .before .before .before .greedy .kept .1 .1 .1 .1 .1 .1 .0 ∙ c .before .before .before .before .before .before .before .before .before .before .before .before .before .before .before .opposed .kept .1 .1 .1 .1 .1 .0 ∙ c .before .before .before .before .before .before .before .before .before .before .before .before .before .before .before .before .before .before .before .before .keeps .kept .1 .1 .1 .1 .1 .0) (asked .room); memory = c .before .before .before .before .before .by-lists .ensures .1 })
 
 solve-same-length-6 : (t : ℕ) → solve-lts.Need-same-length-6 (solve-calls t) (solve-at t) solve.Post
-solve-same-length-6 t c = c .before .before .by-asking .kept .1 .1 .1 .1 .1 .0 ∙ c .before .before .before .before .before .before .before .before .by-lists .kept .1 .1 .1 .1 .1 .0 ∙ c .before .before .before .before .before .before .before .before .before .before .before .before .before .greedy .kept .1 .1 .1 .1 .1 .0 ∙ c .before .before .before .before .before .before .before .before .before .before .before .before .before .before .before .before .before .before .opposed .kept .1 .1 .1 .1 .1 .0 ∙ c .before .before .before .before .before .before .before .before .before .before .before .before .before .before .before .before .before .before .before .before .before .before .before .keeps .kept .1 .1 .1 .1 .1 .0
+solve-same-length-6 t c = c .before .before .by-asking .kept .1 .1 .1 .1 .1 .0 ∙ c .before .before .before .before .before .before .before .before .by-lists .kept .1 .1 .1 .1 .1 .0 ∙ c .before .before .before .before .before .before .before .before .before .before .before .before .before .greedy .kept .1 .1 .1 .1 .1 .1 .0 ∙ c .before .before .before .before .before .before .before .before .before .before .before .before .before .before .before .before .before .before .opposed .kept .1 .1 .1 .1 .1 .0 ∙ c .before .before .before .before .before .before .before .before .before .before .before .before .before .before .before .before .before .before .before .before .before .before .before .keeps .kept .1 .1 .1 .1 .1 .0
 
 solve-returns-6 : (t : ℕ) → solve-lts.Need-returns-6 (solve-calls t) (solve-at t) solve.Post
 solve-returns-6 t c = c .before .before .by-asking .ensures
@@ -2626,10 +2639,10 @@ by-more-returns-2 : (t : ℕ) → by-more-lts.Need-returns-2 (by-more-calls t) (
 by-more-returns-2 t c = (rw (c .if1 .taken) at (c .before .before .before .selected .ensures .0), c .before .before .before .selected .ensures .1)
 
 by-more-same-length-3 : (t : ℕ) → by-more-lts.Need-same-length-3 (by-more-calls t) (by-more-at t) by-more.Post
-by-more-same-length-3 t c = c .before .before .before .selected .kept .1 .1 .1 .1 .1 .1 .0 ∙ c .before .before .before .before .before .before .before .enriched .kept .1 .1 .1 .1 .1 .1 .0 ∙ c .before .before .before .before .before .before .before .before .before .before .before .before .before .before .columns .kept .1 .1 .1 .1 .1 .0
+by-more-same-length-3 t c = c .before .before .before .greedy-anew .kept .1 .1 .1 .1 .1 .0 ∙ c .before .before .before .before .before .before .before .before .selected .kept .1 .1 .1 .1 .1 .1 .0 ∙ c .before .before .before .before .before .before .before .before .before .before .before .before .enriched .kept .1 .1 .1 .1 .1 .1 .0 ∙ c .before .before .before .before .before .before .before .before .before .before .before .before .before .before .before .before .before .before .before .columns .kept .1 .1 .1 .1 .1 .0
 
 by-more-returns-3 : (t : ℕ) → by-more-lts.Need-returns-3 (by-more-calls t) (by-more-at t) by-more.Post
-by-more-returns-3 t c = (tt, c .before .before .before .selected .ensures .1)
+by-more-returns-3 t c = (c .before .before .before .greedy-anew .ensures .answers (c .if2 .taken), c .before .before .before .greedy-anew .ensures .memory)
 
 enriched-loop-holds : (t : ℕ) → enriched-lts.Need-loop-holds (enriched-calls t) (enriched-at t) enriched.Post enriched-Inv-loop enriched-μ-loop
 enriched-loop-holds t c = (λ i h. h, refl, record { lists = c .before .before .pre .1 .lists; memory = c .before .before .pre .1 .problem .memory })
@@ -2770,9 +2783,97 @@ seeded-returns t c =
     let last = c .before .before .grown4 .ensures in
     record { promising = last .promising; fit = last .fit; same = last .same ∙ c .before .before .before .before .before .before .grown3 .ensures .same ∙ c .before .before .before .before .before .before .before .before .before .before .grown2 .ensures .same ∙ c .before .before .before .before .before .before .before .before .before .before .before .before .before .before .grown .ensures .same; memory = last .memory }
 
-pub +branches+by-asking+by-columns+by-core+by-list+by-lists+by-more+can-keep+case-holds+column+columns+core-of+enriched+greedy+grown+grown-by+keeps+largest+leaf+opposed+refuted+relation+relations+said-by+seeded+solve+split+without+world-spec :
+abbrev greedy-anew-Inv-loop : greedy-anew-lts.InvT-loop
+greedy-anew-Inv-loop entries q all depth level work₀ rest₀ work rest =
+    Within (member rest) (member all) × (length work ≡ length work₀) × Remembers (wideAt entries) depth level work
+
+abbrev greedy-anew-μ-loop : greedy-anew-lts.MeasureT-loop
+greedy-anew-μ-loop entries q all depth level work₀ rest₀ work rest = count (member rest) 64
+
+-- the entry whose order is next
+order-in : (t : ℕ) (c : greedy-anew-lts.After-i (greedy-anew-calls t) (greedy-anew-at t) greedy-anew.Post greedy-anew-Inv-loop greedy-anew-μ-loop)
+    → member (c .before .before .before .loop .rest) (c .i .given .0 .0) ≡ true
+order-in t c = (rw (c .i .given .1) at (c .before .before .highest .ensures)) .here
+
+-- it is an entry
+order-small : (t : ℕ) (c : greedy-anew-lts.After-i (greedy-anew-calls t) (greedy-anew-at t) greedy-anew.Post greedy-anew-Inv-loop greedy-anew-μ-loop)
+    → c .i .given .0 .0 < 64
+order-small t c =
+    let asked = c .before .before .before .before .before .before .pre .1 in
+    omega (arith, chosen-below asked (c .before .before .before .loop .inv .0) _ (order-in t c), asked .promising .few)
+
+by-more-greedy-anew-requires : (t : ℕ) → by-more-lts.Need-greedy-anew-requires (by-more-calls t) (by-more-at t) by-more.Post
+by-more-greedy-anew-requires t c κs =
+    let asked = c .before .before .before .before .before .before .before .before .before .before .before .before .before .before .before .before .before .before .before .pre .1 in (
+      omega (arith, c .before .before .before .before .before .before .before .before .before .before .before .before .before .before .before .before .before .before .before .pre .0),
+      record {
+        promising = asked .promising;
+        deep = asked .deep;
+        all-asking = asked .all-asking;
+        room = room-kept (c .before .before .before .before .selected .kept .1 .1 .1 .1 .1 .1 .0 ∙ c .before .before .before .before .before .before .before .before .enriched .kept .1 .1 .1 .1 .1 .1 .0 ∙ c .before .before .before .before .before .before .before .before .before .before .before .before .before .before .before .columns .kept .1 .1 .1 .1 .1 .0) (asked .room);
+        memory = c .before .before .before .before .selected .ensures .1;
+      },
+    )
+
+by-more-same-length-4 : (t : ℕ) → by-more-lts.Need-same-length-4 (by-more-calls t) (by-more-at t) by-more.Post
+by-more-same-length-4 t c = c .before .before .before .greedy-anew .kept .1 .1 .1 .1 .1 .0 ∙ c .before .before .before .before .before .before .before .before .selected .kept .1 .1 .1 .1 .1 .1 .0 ∙ c .before .before .before .before .before .before .before .before .before .before .before .before .enriched .kept .1 .1 .1 .1 .1 .1 .0 ∙ c .before .before .before .before .before .before .before .before .before .before .before .before .before .before .before .before .before .before .before .columns .kept .1 .1 .1 .1 .1 .0
+
+by-more-returns-4 : (t : ℕ) → by-more-lts.Need-returns-4 (by-more-calls t) (by-more-at t) by-more.Post
+by-more-returns-4 t c = (tt, c .before .before .before .greedy-anew .ensures .memory)
+
+greedy-anew-loop-holds : (t : ℕ) → greedy-anew-lts.Need-loop-holds (greedy-anew-calls t) (greedy-anew-at t) greedy-anew.Post greedy-anew-Inv-loop greedy-anew-μ-loop
+greedy-anew-loop-holds t c = (λ i h. h, refl, c .before .before .pre .1 .memory)
+
+greedy-anew-highest-requires : (t : ℕ) → greedy-anew-lts.Need-highest-requires (greedy-anew-calls t) (greedy-anew-at t) greedy-anew.Post greedy-anew-Inv-loop greedy-anew-μ-loop
+greedy-anew-highest-requires t c κs = search needs
+
+greedy-anew-enum-known-i : (t : ℕ) → greedy-anew-lts.Need-enum-known-i (greedy-anew-calls t) (greedy-anew-at t) greedy-anew.Post greedy-anew-Inv-loop greedy-anew-μ-loop
+greedy-anew-enum-known-i t c = search needs
+
+greedy-anew-enum-told : (t : ℕ) → greedy-anew-lts.Need-enum-told (greedy-anew-calls t) (greedy-anew-at t) greedy-anew.Post greedy-anew-Inv-loop greedy-anew-μ-loop
+greedy-anew-enum-told t c = search needs
+
+greedy-anew-same-length : (t : ℕ) → greedy-anew-lts.Need-same-length (greedy-anew-calls t) (greedy-anew-at t) greedy-anew.Post greedy-anew-Inv-loop greedy-anew-μ-loop
+greedy-anew-same-length t c = c .before .before .before .loop .inv .1
+
+greedy-anew-returns : (t : ℕ) → greedy-anew-lts.Need-returns (greedy-anew-calls t) (greedy-anew-at t) greedy-anew.Post greedy-anew-Inv-loop greedy-anew-μ-loop
+greedy-anew-returns t c = record { answers = λ e. absurd (false≢true e); memory = c .before .before .before .loop .inv .2 }
+
+greedy-anew-without-requires : (t : ℕ) → greedy-anew-lts.Need-without-requires (greedy-anew-calls t) (greedy-anew-at t) greedy-anew.Post greedy-anew-Inv-loop greedy-anew-μ-loop
+greedy-anew-without-requires t c κs = search needs
+
+greedy-anew-greedy-requires : (t : ℕ) → greedy-anew-lts.Need-greedy-requires (greedy-anew-calls t) (greedy-anew-at t) greedy-anew.Post greedy-anew-Inv-loop greedy-anew-μ-loop
+greedy-anew-greedy-requires t c κs =
+    let asked = c .before .before .before .before .before .before .before .before .before .pre .1 in (
+      omega (arith, c .before .before .before .before .before .before .before .before .before .pre .0),
+      record {
+        promising = asked .promising;
+        deep = asked .deep;
+        all-asking = asked .all-asking;
+        room = room-kept (c .before .before .before .before .before .before .loop .inv .1) (asked .room);
+        memory = c .before .before .before .before .before .before .loop .inv .2;
+      },
+    )
+
+greedy-anew-same-length-2 : (t : ℕ) → greedy-anew-lts.Need-same-length-2 (greedy-anew-calls t) (greedy-anew-at t) greedy-anew.Post greedy-anew-Inv-loop greedy-anew-μ-loop
+greedy-anew-same-length-2 t c = c .before .before .before .greedy .kept .1 .1 .1 .1 .1 .1 .0 ∙ c .before .before .before .before .before .before .before .before .before .before .loop .inv .1
+
+greedy-anew-returns-2 : (t : ℕ) → greedy-anew-lts.Need-returns-2 (greedy-anew-calls t) (greedy-anew-at t) greedy-anew.Post greedy-anew-Inv-loop greedy-anew-μ-loop
+greedy-anew-returns-2 t c = record { answers = λ e. c .before .before .before .greedy .ensures .answers (c .if1 .taken); memory = c .before .before .before .greedy .ensures .memory }
+
+greedy-anew-loop-less : (t : ℕ) → greedy-anew-lts.Need-loop-less (greedy-anew-calls t) (greedy-anew-at t) greedy-anew.Post greedy-anew-Inv-loop greedy-anew-μ-loop
+greedy-anew-loop-less t c = rw (c .before .before .before .before .before .without .ensures) (count-removed (member (c .before .before .before .before .before .before .before .before .before .before .loop .rest)) 64 (order-in t (c .before .before .before .before .before .before .before)) (order-small t (c .before .before .before .before .before .before .before)))
+
+greedy-anew-loop-again : (t : ℕ) → greedy-anew-lts.Need-loop-again (greedy-anew-calls t) (greedy-anew-at t) greedy-anew.Post greedy-anew-Inv-loop greedy-anew-μ-loop
+greedy-anew-loop-again t c = (
+  rw (c .before .before .before .before .before .without .ensures) (λ j h. c .before .before .before .before .before .before .before .before .before .before .loop .inv .0 j (removed-within (member (c .before .before .before .before .before .before .before .before .before .before .loop .rest)) (c .before .before .before .before .before .before .before .i .given .0 .0) j h)),
+  c .before .before .before .greedy .kept .1 .1 .1 .1 .1 .1 .0 ∙ c .before .before .before .before .before .before .before .before .before .before .loop .inv .1,
+  c .before .before .before .greedy .ensures .memory,
+)
+
+pub +branches+by-asking+by-columns+by-core+by-list+by-lists+by-more+can-keep+case-holds+column+columns+core-of+enriched+greedy+greedy-anew+grown+grown-by+keeps+largest+leaf+opposed+refuted+relation+relations+said-by+seeded+solve+split+without+world-spec :
     {M : Type 1} → statement M
-+branches+by-asking+by-columns+by-core+by-list+by-lists+by-more+can-keep+case-holds+column+columns+core-of+enriched+greedy+grown+grown-by+keeps+largest+leaf+opposed+refuted+relation+relations+said-by+seeded+solve+split+without+world-spec =
++branches+by-asking+by-columns+by-core+by-list+by-lists+by-more+can-keep+case-holds+column+columns+core-of+enriched+greedy+greedy-anew+grown+grown-by+keeps+largest+leaf+opposed+refuted+relation+relations+said-by+seeded+solve+split+without+world-spec =
     close
     μ-branches
     μ-by-asking
@@ -2788,6 +2889,7 @@ pub +branches+by-asking+by-columns+by-core+by-list+by-lists+by-more+can-keep+cas
     μ-core-of
     μ-enriched
     μ-greedy
+    μ-greedy-anew
     μ-grown
     μ-grown-by
     μ-keeps
@@ -2931,8 +3033,11 @@ pub +branches+by-asking+by-columns+by-core+by-list+by-lists+by-more+can-keep+cas
     (by-more-selected-requires t)
     (by-more-same-length-2 t)
     (by-more-returns-2 t)
+    (by-more-greedy-anew-requires t)
     (by-more-same-length-3 t)
-    (by-more-returns-3 t))
+    (by-more-returns-3 t)
+    (by-more-same-length-4 t)
+    (by-more-returns-4 t))
     (λ t. can-keep-lts.spec (can-keep-calls t)
     (can-keep-at t)
     can-keep.Post
@@ -3059,7 +3164,7 @@ pub +branches+by-asking+by-columns+by-core+by-list+by-lists+by-more+can-keep+cas
     (greedy-used-up-requires t)
     (greedy-intersection-requires-2 t)
     (greedy-empty-requires t)
-    (greedy-highest-of-requires t)
+    (greedy-foremost-requires t)
     (greedy-grown-requires t)
     (greedy-grown-requires-2 t)
     (greedy-grown-requires-3 t)
@@ -3071,6 +3176,23 @@ pub +branches+by-asking+by-columns+by-core+by-list+by-lists+by-more+can-keep+cas
     (greedy-add-slots t)
     (greedy-loop-less t)
     (greedy-loop-again t))
+    (λ t. greedy-anew-lts.spec (greedy-anew-calls t)
+    (greedy-anew-at t)
+    greedy-anew.Post
+    greedy-anew-Inv-loop
+    greedy-anew-μ-loop
+    (greedy-anew-loop-holds t)
+    (greedy-anew-highest-requires t)
+    (greedy-anew-enum-known-i t)
+    (greedy-anew-enum-told t)
+    (greedy-anew-same-length t)
+    (greedy-anew-returns t)
+    (greedy-anew-without-requires t)
+    (greedy-anew-greedy-requires t)
+    (greedy-anew-same-length-2 t)
+    (greedy-anew-returns-2 t)
+    (greedy-anew-loop-less t)
+    (greedy-anew-loop-again t))
     (λ t. grown-lts.spec (grown-calls t)
     (grown-at t)
     grown.Post
