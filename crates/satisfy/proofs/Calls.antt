@@ -14,7 +14,6 @@ use Rattle.semantics.specs.Structure.{count}
 use Rattle.semantics.proofs.Count.{count-mono}
 use Rattle.sets.specs.declared.Set.{Set}
 use Rattle.sets.specs.Set.{member, nothing, removed, butNot, code, Within}
-use Rattle.sets.specs.Word.{Greatest}
 use Rattle.table.specs.declared.entry.Entry.{Entry}
 use Rattle.table.specs.Formulas.{depthAt}
 use Rattle.table.proofs.Accepted.{depth-rule}
@@ -30,9 +29,8 @@ use Rattle.wants.proofs.Members.{count-removed}
 use Rattle.satisfy.specs.World.{SatW, Ready}
 use Rattle.satisfy.specs.Promise.{Promising, Promised}
 use Rattle.satisfy.specs.Relation.{counting, Bounded, QuestionOf}
-use Rattle.satisfy.specs.Asking.{Roomy, CaseAnswers}
+use Rattle.satisfy.specs.Asking.{Roomy, Remembers, ProblemAsked}
 use Rattle.satisfy.proofs.Promises.{counting-depth}
-use Rattle.satisfy.proofs.Worlds.{cases-fail}
 
 module _ {entry : ℕ → Entry} {n : ℕ} {w : Wants} {bound depth : ℕ} (ready : Ready entry n w bound depth) where
   -- nothing is pending
@@ -45,23 +43,8 @@ module _ {entry : ℕ → Entry} {n : ℕ} {w : Wants} {bound depth : ℕ} (read
     pending-below = λ i h. absurd (false≢true (ap (λ (p : ℕ → Bool). p i) (sym none) ∙ h));
   }
 
-  pub ready-wider : bound ≤ 64 → Ready entry n w 64 depth
-  ready-wider small = record {
-    formed = ready .formed;
-    few = ready .few;
-    settled = ready .settled;
-    shallow = ready .shallow;
-    pending-below = λ i h. omega (arith, ready .pending-below i h);
-  }
-
   pub ready-bounded : Bounded n w
   ready-bounded = record { few = ready .few; below = ready .settled .below }
-
--- the second case decides, once the first has failed
-pub world-answer : {entry : ℕ → Entry} {n d depth : ℕ} {w : Wants} → Ready entry n w 64 depth → Greatest (member (w .pending)) d
-    → CaseAnswers entry w d true false → (r : Bool) → CaseAnswers entry w d false r → Answers r (SatW entry w)
-world-answer ready top one true sat = sat
-world-answer ready top one false two = cases-fail ready top one two
 
 -- a successor that can be had keeps the promises
 pub promised-fit : (P : Problem) (promises : Set) (depth : ℕ) → Promising P (member promises) depth → {v : Wants} → Promised P (member promises) depth v
@@ -131,6 +114,17 @@ count-done p all {k} {n} here there l =
 -- as many words
 pub room-kept : {entry : ℕ → Entry} {n depth level a b : ℕ} → a ≡ b → Roomy entry n depth level b → Roomy entry n depth level a
 room-kept same room = rw same room
+
+-- the problem is asked again, after the words were worked in
+pub problem-kept : {P : Problem} {all : Set} {depth level : ℕ} {before after : List ℕ} → ProblemAsked P all depth level before → length after ≡ length before
+    → Remembers (P .entry) depth level after → ProblemAsked P all depth level after
+problem-kept asked same memory = record {
+  promising = asked .promising;
+  deep = asked .deep;
+  all-asking = asked .all-asking;
+  room = room-kept same (asked .room);
+  memory = memory;
+}
 
 -- what is left of a list behind a place
 pub length-behind : (l : List ℕ) (a : ℕ) → length (take (length l - a) (drop a l)) ≡ length l - a

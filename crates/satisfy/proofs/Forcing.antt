@@ -135,20 +135,22 @@ module _ {entry : ℕ → Entry} {n bound depth : ℕ} {w : Wants} where
   }
   forced-next one Outcome.Clash clash = λ s x inside m. clash s x inside (one .complete s x inside m)
 
-  -- what is answered of the outcome holds of what was wanted
-  pub forced-answer : {v : Wants} → Forced entry n w bound depth v → (r : Bool) → Answers r (SatW entry v) → Answers r (SatW entry w)
-  forced-answer forced true sat = record {
+  -- a world that is as the one wants is as the other does
+  pub forced-back : {v : Wants} → Forced entry n w bound depth v → SatW entry v → SatW entry w
+  forced-back forced sat = record {
     structure = sat .structure;
     world = sat .world;
     inside = sat .inside;
     meets = forced .sound (sat .structure) (sat .world) (sat .meets);
   }
-  forced-answer forced false none = λ sat. none (record {
+
+  pub forced-forth : {v : Wants} → Forced entry n w bound depth v → SatW entry w → SatW entry v
+  forced-forth forced sat = record {
     structure = sat .structure;
     world = sat .world;
     inside = sat .inside;
     meets = forced .complete (sat .structure) (sat .world) (sat .inside) (sat .meets);
-  })
+  }
 
 -- one more is seen
 pub unseen-fewer : (p : ℕ → Bool) {d n : ℕ} → p d ≡ false → d < n → count (λ i. not (added p d i)) n < count (λ i. not (p i)) n

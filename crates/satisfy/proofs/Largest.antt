@@ -12,9 +12,11 @@ use lib.ListN.{length, getD, take, drop}
 use lib.Seq.{getD-take, take-take, take-at}
 use lib.Dec.{eqb}
 use borrow.Author.Tests.{eqb-true, eq-eqb, ne-eqb}
+use Rattle.semantics.specs.Structure.{count}
 use Rattle.sets.specs.declared.Set.{Set}
 use Rattle.sets.specs.Set.{member, nothing, added, removed, either, butNot, code, Within}
 use Rattle.sets.specs.Word.{bitAt}
+use Rattle.table.specs.declared.entry.Entry.{Entry}
 use Rattle.tableau.specs.Search.{Problem, asking, Fit, Solvable}
 use Rattle.tableau.specs.Listed.{In, Covers}
 use Rattle.tableau.specs.Wants.{wanted}
@@ -30,9 +32,12 @@ use Rattle.listed.proofs.Codes.{codes-alike}
 use Rattle.selection.specs.Relaxing.{SameBelow}
 use Rattle.satisfy.specs.declared.listing.Guess.{Guess}
 use Rattle.satisfy.specs.declared.listing.Listing.{Listing}
+use Rattle.wants.proofs.Members.{count-removed}
+use Rattle.satisfy.specs.Promise.{Promising}
 use Rattle.satisfy.specs.Asking.{listRoom, Roomy, Remembers}
 use Rattle.satisfy.specs.Greedy.{FitIfAny}
 use Rattle.satisfy.specs.Listing.{Placed, listOf, AlsoIs, AlsoNew, Unkept, Reaches, Lists, FitList, ListedMore, ListingIs, GuessIs, NarrowedIs}
+use Rattle.satisfy.proofs.Promises.{promise-below, promising-fewer}
 use Rattle.satisfy.proofs.Worlds.{room-level}
 
 -- ---- sets
@@ -60,10 +65,10 @@ added-within p i {r} here rest j h = ⊎-elim (λ (e : eqb j i ≡ true). rw (eq
 pub removed-within : (p : ℕ → Bool) (i : ℕ) → Within (removed p i) p
 removed-within p i j h = both-parts true (not (eqb j i)) (p j) h .1
 
-pub removed-fewer : (p q : ℕ → Bool) (i : ℕ) → Within p q → Within (removed p i) (removed q i)
+removed-fewer : (p q : ℕ → Bool) (i : ℕ) → Within p q → Within (removed p i) (removed q i)
 removed-fewer p q i within j h = let parts = both-parts true (not (eqb j i)) (p j) h in both-made true (parts .0) (within j (parts .1))
 
-pub moved-within : (p q : ℕ → Bool) (i : ℕ) → q i ≡ true → Within (either (added p i) (removed q i)) (either p q)
+moved-within : (p q : ℕ → Bool) (i : ℕ) → q i ≡ true → Within (either (added p i) (removed q i)) (either p q)
 moved-within p q i here = either-made (added p i) (removed q i) (added-within p i (either-right p q i here) (either-left p q)) (λ j h. either-right p q j (removed-within q i j h))
 
 -- the code of a set spells its members
@@ -85,8 +90,12 @@ unkept-more P within none row fit h = none row fit (λ i s. h i (within i s))
 
 -- ---- the list, where the words of the level are as before
 
+-- the level has room for a list
+pub room-list : {entry : ℕ → Entry} {n depth level words : ℕ} → Roomy entry n depth level words → listRoom n ≤ level
+room-list room = omega (arith, room .stack)
+
 pub room-placed : (P : Problem) {k depth level words : ℕ} → P .n ≤ 64 → Roomy (P .entry) (P .n) depth level words → k ≤ listRoom (P .n) → Placed (P .n) k level words
-room-placed P few room some = record { few = few; some = some; room = omega (arith, room .stack); inside = room-level room }
+room-placed P few room some = record { few = few; some = some; room = room-list room; inside = room-level room }
 
 module _ (n : ℕ) {k level : ℕ} (some : k ≤ listRoom n) (room : listRoom n ≤ level) (before after : List ℕ) where
   pub list-kept : take level after ≡ take level before → listOf n level after k ≡ listOf n level before k
@@ -196,7 +205,7 @@ module _ (P : Problem) (low free : ℕ → Bool) (i : ℕ) where
       by-promise true is = with-it row fit (added-within low i is above) (had low free i (row .promises) below) j asks promised
       by-promise false is = without row fit above (left-out (row .promises) is below) j asks promised
 
-  pub listing-branch : {k : ℕ} (depth level more : ℕ) (before mid after : List ℕ) → ListedMore P low (either low (removed free i)) k depth level before mid more → (r : Listing)
+  listing-branch : {k : ℕ} (depth level more : ℕ) (before mid after : List ℕ) → ListedMore P low (either low (removed free i)) k depth level before mid more → (r : Listing)
       → ListingIs P (added low i) (either (added low i) (removed free i)) more depth level mid after r → ListingIs P low (either low free) k depth level before after r
   listing-branch depth level more before mid after first (Listing.Room m) second = record {
     lists = second .lists;
@@ -209,13 +218,58 @@ module _ (P : Problem) (low free : ℕ → Bool) (i : ℕ) where
   listing-branch depth level more before mid after first (Listing.Full all) second = second
 
 -- what is left of the core cannot be kept beside it
-pub core-had : (P : Problem) (low core : ℕ → Bool) (i : ℕ) → Unkept P (either low core) → Unkept P (either (added low i) (removed core i))
+core-had : (P : Problem) (low core : ℕ → Bool) (i : ℕ) → Unkept P (either low core) → Unkept P (either (added low i) (removed core i))
 core-had P low core i = unkept-more P (had low core i (either low core) (λ j h. h))
 
 -- no member of the core is left: nothing that has all of the low side can be kept
-pub reaches-unkept : (P : Problem) (low core high : ℕ → Bool) (list : List ℕ) → core ≡ nothing → Unkept P (either low core) → Reaches P low high list
+reaches-unkept : (P : Problem) (low core high : ℕ → Bool) (list : List ℕ) → core ≡ nothing → Unkept P (either low core) → Reaches P low high list
 reaches-unkept P low core high list empty none row fit above below i asks promised =
     absurd (none row fit (either-made low core above (λ j h. absurd (false≢true (ap (λ (p : ℕ → Bool). p j) (sym empty) ∙ h)))))
+
+-- The members of `core`, a part of `rest`, cannot all be kept beside `had`: what is listed for `had` and `rest` makes up the list for `low`
+-- and `free`.
+pub record Branching (P : Problem) (low free : ℕ → Bool) (k depth level : ℕ) (before : List ℕ) (core had rest : ℕ → Bool) (listed : ℕ) (work : List ℕ) : Type 0 where
+  pub promising : Promising P (either had rest) (depth - 1)
+  pub lists : Lists P listed level work
+  pub memory : Remembers (P .entry) depth level work
+  pub within : Within core rest
+  pub unkept : Unkept P (either had core)
+  pub fewer : count rest 64 ≤ count free 64
+  pub as-many : length work ≡ length before
+  pub whole : (after : List ℕ) (r : Listing) → ListingIs P had (either had rest) listed depth level work after r → ListingIs P low (either low free) k depth level before after r
+
+module _ {P : Problem} {low free : ℕ → Bool} {k depth level : ℕ} {before : List ℕ} {core had rest : ℕ → Bool} {listed : ℕ} {work : List ℕ}
+    (at : Branching P low free k depth level before core had rest listed work) where
+  -- no member of the core is left
+  pub branching-done : core ≡ nothing → ListedMore P low (either low free) k depth level before work listed
+  branching-done empty =
+      at .whole work (Listing.Room listed)
+      (listing-same P had (either had rest) depth level (at .lists) (at .memory) (reaches-unkept P had core (either had rest) (listOf (P .n) level work listed) empty (at .unkept)))
+
+  module _ (i : ℕ) (here : core i ≡ true) where
+    pub branching-small : i < 64
+    branching-small =
+        omega (arith, promise-below P (either had rest) (depth - 1) (at .promising) i (either-right had rest i (at .within i here)), at .promising .few)
+
+    pub branching-fewer : count (removed rest i) 64 < count free 64
+    branching-fewer = omega (arith, count-removed rest 64 (at .within i here) branching-small, at .fewer)
+
+    pub branching-promising : Promising P (either had (removed rest i)) (depth - 1)
+    branching-promising = promising-fewer (at .promising) (either-fewer had (removed rest i) rest (removed-within rest i))
+
+    -- the sets without it are listed
+    pub branching-next : {mid : List ℕ} {more : ℕ} → ListedMore P had (either had (removed rest i)) listed depth level work mid more → length mid ≡ length work
+        → Branching P low free k depth level before (removed core i) (added had i) (removed rest i) more mid
+    branching-next {mid} {more} first same = record {
+      promising = promising-fewer (at .promising) (moved-within had rest i (at .within i here));
+      lists = first .lists;
+      memory = first .memory;
+      within = removed-fewer core rest i (at .within);
+      unkept = core-had P had core i (at .unkept);
+      fewer = omega (arith, branching-fewer);
+      as-many = same ∙ at .as-many;
+      whole = λ after r h. at .whole after r (listing-branch P had rest i depth level more work mid after first r h);
+    }
 
 -- ---- the list stands for all
 

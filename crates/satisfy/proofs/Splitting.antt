@@ -38,6 +38,16 @@ split-depth : (c : Bool) (k a b : ℕ) → k ≡ cond c 5 4 → (a ≤ depthOf a
 split-depth true k a b is = rw is (omega arith)
 split-depth false k a b is = rw is (omega arith)
 
+-- a higher bound
+pub ready-wider : {entry : ℕ → Entry} {n : ℕ} {w : Wants} {bound depth : ℕ} → Ready entry n w bound depth → bound ≤ 64 → Ready entry n w 64 depth
+ready-wider ready small = record {
+  formed = ready .formed;
+  few = ready .few;
+  settled = ready .settled;
+  shallow = ready .shallow;
+  pending-below = λ i h. omega (arith, ready .pending-below i h);
+}
+
 -- what is known of a pending entry
 module _ {entry : ℕ → Entry} {n d bound depth : ℕ} {w : Wants} (at : Waiting entry n w d bound depth) where
   kind-is : entry d .kind ≡ cond (serving entry d) 5 4

@@ -1,4 +1,4 @@
--- From worlds to relations and back: two cases that both fail leave no world; relations that all have solutions give one.
+-- From worlds to relations and back: where the first case of a split fails, the second is left; relations that all have solutions give a world.
 use mathlib.Core.Path.{_≡_, refl, sym, ap, _∙_}
 use mathlib.Core.Logic.{⊎-elim}
 use mathlib.Core.Bool.{Bool, true, false, false≢true}
@@ -7,6 +7,7 @@ use native.Mathlib.Nat.{suc-mul, not-suc-le-zero}
 use native.Mathlib.Omega.{arith}
 use lib.Dec.{eqb}
 use borrow.Author.Tests.{eqb-true}
+use Rattle.semantics.specs.Structure.{Structure}
 use Rattle.sets.specs.Set.{member, nothing, butNot}
 use Rattle.sets.specs.Word.{Greatest}
 use Rattle.table.specs.declared.entry.Entry.{Entry}
@@ -16,24 +17,75 @@ use Rattle.tableau.proofs.Tests.{both-parts}
 use Rattle.tableau.proofs.Solved.{solved}
 use Rattle.tableau.proofs.Built.{built}
 use Rattle.wants.specs.declared.Wants.{Wants}
-use Rattle.satisfy.specs.World.{SatW, Ready, Branch}
+use Rattle.wants.specs.Outcome.{MeetsW}
+use Rattle.satisfy.specs.World.{SatW, CaseOf, Ready, Waiting, Branch}
+use Rattle.satisfy.specs.Force.{Forced}
 use Rattle.satisfy.specs.Relation.{counting}
-use Rattle.satisfy.specs.Asking.{Roomy, CaseAnswers, Solving, AllSolved, CountAnswers}
-use Rattle.satisfy.proofs.Splitting.{waiting, cases}
+use Rattle.satisfy.specs.Asking.{Roomy, Solving, AllSolved, CountAnswers}
+use Rattle.satisfy.proofs.Splitting.{ready-wider, waiting, cases}
+use Rattle.satisfy.proofs.Forcing.{forced-back, forced-forth}
 
-module _ {entry : ℕ → Entry} {n d depth : ℕ} {w : Wants} where
-  -- what the world of a case answers
-  pub case-answer : (case r : Bool) {v : Wants} → Branch entry n case d w depth v → Answers r (SatW entry v) → CaseAnswers entry w d case r
-  case-answer case true branch sat = branch .sound sat
-  case-answer case false branch unsat =
-      λ s u inside meets so. unsat (record { structure = s; world = u; inside = inside; meets = branch .complete s u meets so })
+-- What is left to be looked into while w is split: some world is as w wants exactly where some world is as v wants, of which nothing is
+-- pending from `top` on.
+pub record Remaining (entry : ℕ → Entry) (n depth bound : ℕ) (w v : Wants) (top : ℕ) : Type 0 where
+  pub ready : Ready entry n v top depth
+  pub small : top ≤ bound
+  pub back : SatW entry v → SatW entry w
+  pub forth : SatW entry w → SatW entry v
 
-  -- both cases fail
-  pub cases-fail : Ready entry n w 64 depth → Greatest (member (w .pending)) d → CaseAnswers entry w d true false → CaseAnswers entry w d false false → SatW entry w → ⊥
-  cases-fail ready top one two sat =
-      let s = sat .structure in
-      let u = sat .world in
-      ⊎-elim (one s u (sat .inside) (sat .meets)) (two s u (sat .inside) (sat .meets)) (cases (waiting ready top) s u (sat .meets))
+-- no world that is as wanted falls under the case
+abbrev pub Fails : (ℕ → Entry) → Wants → (d : ℕ) → (case : Bool) → Type 0
+Fails entry w d case = (s : Structure) (u : ℕ) → u < s .worlds → MeetsW entry s u w → CaseOf entry case d s u → ⊥
+
+module _ {entry : ℕ → Entry} {n depth bound top : ℕ} {w v : Wants} (left : Remaining entry n depth bound w v top) where
+  pub remaining-answer : (r : Bool) → Answers r (SatW entry v) → Answers r (SatW entry w)
+  remaining-answer true sat = left .back sat
+  remaining-answer false none = λ sat. none (left .forth sat)
+
+  -- what follows without a split
+  pub remaining-forced : {u : Wants} → Forced entry n v top depth u → Remaining entry n depth bound w u top
+  remaining-forced forced = record {
+    ready = forced .ready;
+    small = left .small;
+    back = λ sat. left .back (forced-back forced sat);
+    forth = λ sat. forced-forth forced (left .forth sat);
+  }
+
+  module _ {d : ℕ} (few : bound ≤ 64) (highest : Greatest (member (v .pending)) d) where
+    open-pending : Waiting entry n v d 64 depth
+    open-pending = waiting (ready-wider (left .ready) (omega (arith, left .small))) highest
+
+    pub split-below : d < top
+    split-below = left .ready .pending-below d (highest .here)
+
+    -- the first case fails: what is left is the second one
+    pub remaining-second : {u : Wants} → Fails entry v d true → Branch entry n false d v depth u → Remaining entry n depth bound w u d
+    remaining-second {u} fails branch = record {
+      ready = branch .ready;
+      small = omega (arith, split-below, left .small);
+      back = λ sat. left .back (branch .sound sat);
+      forth = λ sat. second (left .forth sat);
+    }
+      where
+        second : SatW entry v → SatW entry u
+        second sat =
+            let s = sat .structure in
+            let x = sat .world in
+            ⊎-elim (λ (one : CaseOf entry true d s x). absurd (fails s x (sat .inside) (sat .meets) one))
+            (λ (two : CaseOf entry false d s x). record { structure = s; world = x; inside = sat .inside; meets = branch .complete s x (sat .meets) two })
+            (cases open-pending s x (sat .meets))
+
+    -- both cases fail
+    pub remaining-none : Fails entry v d true → Fails entry v d false → SatW entry w → ⊥
+    remaining-none one two sat =
+        let at = left .forth sat in
+        let s = at .structure in
+        let u = at .world in
+        ⊎-elim (one s u (at .inside) (at .meets)) (two s u (at .inside) (at .meets)) (cases open-pending s u (at .meets))
+
+-- a case that no world is like fails
+pub case-fails : {entry : ℕ → Entry} {n d depth : ℕ} {w : Wants} (case : Bool) {v : Wants} → Branch entry n case d w depth v → (SatW entry v → ⊥) → Fails entry w d case
+case-fails case branch unsat s u inside meets so = unsat (record { structure = s; world = u; inside = inside; meets = branch .complete s u meets so })
 
 module _ (entry : ℕ → Entry) (w : Wants) where
   pub solving-none : (p : ℕ → Bool) → p ≡ (λ i. counting w (entry i) i) → Solving entry w p

@@ -4,10 +4,8 @@ use mathlib.Core.Bool.{Bool, true, false}
 use mathlib.Core.List.{List}
 use Prim.Native.Nat.{ℕ, suc, _+_, _-_, _*_, _<_, _≤_}
 use lib.ListN.{length, take}
-use Rattle.semantics.specs.Structure.{Structure}
 use Rattle.sets.specs.declared.Set.{Set}
 use Rattle.sets.specs.Set.{member, nothing, code, Within}
-use Rattle.sets.specs.Word.{Greatest}
 use Rattle.table.specs.declared.entry.Entry.{Entry}
 use Rattle.table.specs.Space.{gradeSum}
 use Rattle.tableau.specs.Wants.{Answers}
@@ -15,8 +13,7 @@ use Rattle.tableau.specs.Counting.{Solution}
 use Rattle.tableau.specs.Search.{Problem, asking, Fit, Solvable}
 use Rattle.memory.specs.Memory.{Memory}
 use Rattle.wants.specs.declared.Wants.{Wants}
-use Rattle.wants.specs.Outcome.{MeetsW}
-use Rattle.satisfy.specs.World.{SatW, CaseOf, Ready}
+use Rattle.satisfy.specs.World.{SatW, Ready}
 use Rattle.satisfy.specs.Promise.{Promising}
 use Rattle.satisfy.specs.Relation.{counting}
 
@@ -39,19 +36,6 @@ module _ (entry : ℕ → Entry) where
     pub small : bound ≤ 64
     pub room : Roomy entry n depth level (length work)
     pub memory : Remembers entry depth level work
-
-  -- entry d is the highest that is pending
-  pub record CaseAsked (n : ℕ) (w : Wants) (d depth level : ℕ) (work : List ℕ) : Type 0 where
-    pub ready : Ready entry n w 64 depth
-    pub top : Greatest (member (w .pending)) d
-    pub small : d < 64
-    pub room : Roomy entry n depth level (length work)
-    pub memory : Remembers entry depth level work
-
-  -- yes: some world is as wanted; no: none is that falls under the case
-  abbrev pub CaseAnswers : Wants → ℕ → Bool → Bool → Type 0
-  CaseAnswers w d case true = SatW entry w
-  CaseAnswers w d case false = (s : Structure) (u : ℕ) → u < s .worlds → MeetsW entry s u w → CaseOf entry case d s u → ⊥
 
   -- the relations are asked for solutions, whatever is pending
   pub record CountAsked (n : ℕ) (w : Wants) (depth level : ℕ) (work : List ℕ) : Type 0 where

@@ -64,12 +64,6 @@ module _ (P : Problem) where
     pub memory : Remembers (P .entry) depth level work
     pub lists : Lists k level work
 
-  -- the same where the members of `core`, a part of `free`, cannot all be kept beside `low`
-  pub record BranchAsked (low free core : ℕ → Bool) (k depth level : ℕ) (work : List ℕ) : Type 0 where
-    pub list : ListAsked low free k depth level work
-    pub within : Within core free
-    pub unkept : Unkept (either low core)
-
   -- k fit sets are listed
   pub record FitList (k depth level : ℕ) (after : List ℕ) : Type 0 where
     pub lists : Lists k level after

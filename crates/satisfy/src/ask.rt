@@ -5,6 +5,7 @@ ghost use Rattle.wide.specs.Wide.{wideAt};
 ghost use Rattle.tableau.specs.Wants.{Answers, Sat};
 ghost use Rattle.satisfy.specs.Sets.{SetAsked, TakenIs, SetsAsked, SettlingIs, QuestionAsked};
 use crate::branch::want;
+use crate::world::ALL;
 use crate::world::world;
 use sets::Highest;
 use sets::Set;
@@ -59,7 +60,7 @@ pub fn satisfiable(
     ensures { λ r. ⌜ Answers r (Sat (wideAt (now (entries .entry))) (member yes) (member no)) ⌝ }
 {
     match settle(entries, yes, no, depth) {
-        Outcome::Settled(v) => world(entries, v, 64, depth, level, work),
+        Outcome::Settled(v) => world(entries, v, ALL, depth, level, work),
         Outcome::Clash => false,
     }
 }

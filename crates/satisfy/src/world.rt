@@ -11,9 +11,9 @@ ghost use Rattle.tableau.specs.Wants.{Answers};
 ghost use Rattle.tableau.specs.Search.{Solvable};
 ghost use Rattle.counting.specs.Question.{problemOf};
 ghost use Rattle.satisfy.specs.World.{SatW};
-ghost use Rattle.satisfy.specs.Asking.{WorldAsked, CaseAsked, CaseAnswers, CountAsked, CountAnswers, LeafAsked, RelationAsked, ProblemAsked, PromisesAsked, WithoutAsked, Kept, Opposed, Remembers};
+ghost use Rattle.satisfy.specs.Asking.{WorldAsked, CountAsked, CountAnswers, LeafAsked, RelationAsked, ProblemAsked, PromisesAsked, WithoutAsked, Kept, Opposed, Remembers};
 ghost use Rattle.satisfy.specs.Greedy.{GrowAsked, GrownIs, GreedyIs};
-ghost use Rattle.satisfy.specs.Listing.{ListAsked, BranchAsked, ListingIs, CoreAsked, CoreIs, EnrichAsked, FitList, SaidIs, GuessIs};
+ghost use Rattle.satisfy.specs.Listing.{ListAsked, ListingIs, CoreAsked, CoreIs, EnrichAsked, FitList, SaidIs, GuessIs};
 use crate::branch::branch;
 use crate::force::force;
 use crate::learning::learn_refuted;
@@ -65,7 +65,12 @@ use sets::Set;
 use wants::Outcome;
 use wants::Wants;
 
-// Whether some world is as wanted. What is pending is below the bound. What follows without a split comes first.
+// As many entries as a set can hold: the bound on what is pending before the first split of a world.
+pub const ALL: usize = 64;
+
+// Whether some world is as wanted. What is pending is below the bound, and is split from the highest entry down: the first case is
+// looked into, and what is left is the second one. What follows without a split comes first. Relations are asked before the first
+// split only, since one without a solution settles all cases: to ask again at each split costs more than it saves.
 pub fn world(
     entries: &[u64],
     w: Wants,
@@ -77,73 +82,32 @@ pub fn world(
     requires { ⌜ WorldAsked (wideAt (now entries)) (length (now entries)) w bound depth level (now work) ⌝ }
     ensures { λ r. ⌜ Answers r (SatW (wideAt (now (entries .entry))) w) × Remembers (wideAt (now (entries .entry))) depth level (now (work .exit)) ⌝ }
 {
-    match force(entries, w, bound, depth, level, work) {
-        Outcome::Settled(v) => split(entries, v, bound, depth, level, work),
-        Outcome::Clash => false,
+    let mut v = w;
+    let mut top = bound;
+    loop {
+        let Outcome::Settled(u) = force(entries, v, top, depth, level, work) else {
+            return false;
+        };
+        let pending = u.pending;
+        let Highest::At(d) = pending.highest() else {
+            return leaf(entries, u, depth, level, work);
+        };
+        if top == ALL {
+            if !all_met(entries, u, depth, level, work) {
+                return false;
+            }
+        }
+        if let Outcome::Settled(one) = branch(entries, u, d, true, depth) {
+            if world(entries, one, d, depth, level, work) {
+                return true;
+            }
+        }
+        let Outcome::Settled(two) = branch(entries, u, d, false, depth) else {
+            return false;
+        };
+        v = two;
+        top = d;
     }
-}
-
-// The same, by a split of the highest pending entry.
-fn split(
-    entries: &[u64],
-    w: Wants,
-    bound: usize,
-    depth: usize,
-    level: usize,
-    work: &mut [u64],
-) -> bool
-    requires { ⌜ WorldAsked (wideAt (now entries)) (length (now entries)) w bound depth level (now work) ⌝ }
-    ensures { λ r. ⌜ Answers r (SatW (wideAt (now (entries .entry))) w) × Remembers (wideAt (now (entries .entry))) depth level (now (work .exit)) ⌝ }
-{
-    let pending = w.pending;
-    let Highest::At(d) = pending.highest() else {
-        return leaf(entries, w, depth, level, work);
-    };
-    if refuted(entries, w, bound, depth, level, work) {
-        return false;
-    }
-    if case_holds(entries, w, d, true, depth, level, work) {
-        return true;
-    }
-    case_holds(entries, w, d, false, depth, level, work)
-}
-
-// Whether some world is as wanted, looked for in one case of the split of entry d.
-fn case_holds(
-    entries: &[u64],
-    w: Wants,
-    d: usize,
-    case: bool,
-    depth: usize,
-    level: usize,
-    work: &mut [u64],
-) -> bool
-    requires { ⌜ CaseAsked (wideAt (now entries)) (length (now entries)) w d depth level (now work) ⌝ }
-    ensures { λ r. ⌜ CaseAnswers (wideAt (now (entries .entry))) w d case r × Remembers (wideAt (now (entries .entry))) depth level (now (work .exit)) ⌝ }
-{
-    match branch(entries, w, d, case, depth) {
-        Outcome::Settled(v) => world(entries, v, d, depth, level, work),
-        Outcome::Clash => false,
-    }
-}
-
-// Whether a relation is found to have no solution before the first split of a world, which settles all cases. At later splits
-// what is learnt has to do: to ask again at each of them costs more than it saves.
-fn refuted(
-    entries: &[u64],
-    w: Wants,
-    bound: usize,
-    depth: usize,
-    level: usize,
-    work: &mut [u64],
-) -> bool
-    requires { ⌜ CountAsked (wideAt (now entries)) (length (now entries)) w depth level (now work) ⌝ }
-    ensures { λ r. ⌜ (r ≡ true → SatW (wideAt (now (entries .entry))) w → ⊥) × Remembers (wideAt (now (entries .entry))) depth level (now (work .exit)) ⌝ }
-{
-    if bound < 64 {
-        return false;
-    }
-    !relations(entries, w, depth, level, work)
 }
 
 // Whether some world is as wanted, where nothing is pending: exactly if every relation has a solution. Such a world is learnt.
@@ -151,7 +115,7 @@ fn leaf(entries: &[u64], w: Wants, depth: usize, level: usize, work: &mut [u64])
     requires { ⌜ LeafAsked (wideAt (now entries)) (length (now entries)) w depth level (now work) ⌝ }
     ensures { λ r. ⌜ Answers r (SatW (wideAt (now (entries .entry))) w) × Remembers (wideAt (now (entries .entry))) depth level (now (work .exit)) ⌝ }
 {
-    if !relations(entries, w, depth, level, work) {
+    if !all_met(entries, w, depth, level, work) {
         return false;
     }
     learn_world(entries, w, depth, level, work);
@@ -159,7 +123,7 @@ fn leaf(entries: &[u64], w: Wants, depth: usize, level: usize, work: &mut [u64])
 }
 
 // Whether every relation has a solution.
-fn relations(entries: &[u64], w: Wants, depth: usize, level: usize, work: &mut [u64]) -> bool
+fn all_met(entries: &[u64], w: Wants, depth: usize, level: usize, work: &mut [u64]) -> bool
     requires { ⌜ CountAsked (wideAt (now entries)) (length (now entries)) w depth level (now work) ⌝ }
     ensures { λ r. ⌜ CountAnswers (wideAt (now (entries .entry))) w r × Remembers (wideAt (now (entries .entry))) depth level (now (work .exit)) ⌝ }
 {
@@ -170,7 +134,7 @@ fn relations(entries: &[u64], w: Wants, depth: usize, level: usize, work: &mut [
         };
         let q = question_of(entries, w, i);
         let all = asking(entries, q);
-        if !relation(entries, q, all, depth, level, work) {
+        if !one_met(entries, q, all, depth, level, work) {
             return false;
         }
         rest = rest.minus(all);
@@ -179,7 +143,7 @@ fn relations(entries: &[u64], w: Wants, depth: usize, level: usize, work: &mut [
 
 // Whether the needs and limits of a relation have a solution, unless the answer is known: that some world is as they alone
 // want it is the same question.
-fn relation(
+fn one_met(
     entries: &[u64],
     q: Question,
     all: Set,
@@ -225,15 +189,15 @@ fn solve(
     if greedy(entries, q, all, all, depth, level, work) {
         return true;
     }
-    match by_lists(entries, q, all, depth, level, work) {
+    match lists(entries, q, all, depth, level, work) {
         Said::Yes => true,
         Said::No(_) => false,
-        Said::Nothing => by_asking(entries, q, all, depth, level, work),
+        Said::Nothing => probe(entries, q, all, depth, level, work),
     }
 }
 
-// What the two ways to list sets say, the one that is likely to be shorter first.
-fn by_lists(
+// What lists of sets say: that of all the largest ones, or one of few that weights ask for, whichever is likely to be shorter first.
+fn lists(
     entries: &[u64],
     q: Question,
     all: Set,
@@ -244,31 +208,18 @@ fn by_lists(
     requires { ⌜ ProblemAsked (problemOf (now entries) q) all depth level (now work) ⌝ }
     ensures { λ r. ⌜ SaidIs (problemOf (now (entries .entry)) q) r × Remembers (wideAt (now (entries .entry))) depth level (now (work .exit)) ⌝ }
 {
-    let short = is_short(all, depth);
-    match said_by(entries, q, all, short, depth, level, work) {
-        Said::Yes => Said::Yes,
-        Said::No(s) => Said::No(s),
-        Said::Nothing => said_by(entries, q, all, !short, depth, level, work),
-    }
-}
-
-// What the list of all the largest sets says, or else that of those that weights ask for.
-fn said_by(
-    entries: &[u64],
-    q: Question,
-    all: Set,
-    whole: bool,
-    depth: usize,
-    level: usize,
-    work: &mut [u64],
-) -> Said
-    requires { ⌜ ProblemAsked (problemOf (now entries) q) all depth level (now work) ⌝ }
-    ensures { λ r. ⌜ SaidIs (problemOf (now (entries .entry)) q) r × Remembers (wideAt (now (entries .entry))) depth level (now (work .exit)) ⌝ }
-{
-    if whole {
-        by_core(entries, q, all, depth, level, work)
+    if is_short(all, depth) {
+        match by_core(entries, q, all, depth, level, work) {
+            Said::Yes => Said::Yes,
+            Said::No(s) => Said::No(s),
+            Said::Nothing => by_few(entries, q, all, depth, level, work),
+        }
     } else {
-        by_columns(entries, q, all, depth, level, work)
+        match by_few(entries, q, all, depth, level, work) {
+            Said::Yes => Said::Yes,
+            Said::No(s) => Said::No(s),
+            Said::Nothing => by_core(entries, q, all, depth, level, work),
+        }
     }
 }
 
@@ -288,7 +239,7 @@ fn by_core(
     match by_list(entries, q, all, depth, level, work) {
         Said::No(s) => {
             if !all.minus(s).is_empty() {
-                without(entries, q, s, depth, level, work);
+                refute(entries, q, s, depth, level, work);
             }
             Said::No(s)
         }
@@ -329,7 +280,7 @@ fn by_list(
 
 // What a list of sets that weights ask for says. A solution among them is one. Weights that refute them, and that no other set
 // was found to stand against, speak of few needs and limits; if those alone have no solution, all have none.
-fn by_columns(
+fn by_few(
     entries: &[u64],
     q: Question,
     all: Set,
@@ -348,7 +299,7 @@ fn by_columns(
             by_more(entries, q, all, depth, level, work)
         }
         Guess::Without(s) => {
-            if without(entries, q, s, depth, level, work) {
+            if refute(entries, q, s, depth, level, work) {
                 return Said::No(s);
             }
             Said::Nothing
@@ -374,18 +325,18 @@ fn by_more(
     let Guess::Among(k) = columns(entries, q, all, depth, level, work) else {
         return Said::Nothing;
     };
-    let listed = enriched(entries, q, all, k, depth, level, work);
+    let listed = extend(entries, q, all, k, depth, level, work);
     if selected(entries, q, all, listed, depth, level, work) {
         return Said::Yes;
     }
-    if greedy_anew(entries, q, all, depth, level, work) {
+    if anew(entries, q, all, depth, level, work) {
         return Said::Yes;
     }
     Said::Nothing
 }
 
 // Whether a solution is found greedily in one of several orders: with the needs below each entry first.
-fn greedy_anew(
+fn anew(
     entries: &[u64],
     q: Question,
     all: Set,
@@ -409,7 +360,7 @@ fn greedy_anew(
 }
 
 // Lists more sets behind k others, one that is grown from each promise, and tells how many are listed then.
-fn enriched(
+fn extend(
     entries: &[u64],
     q: Question,
     all: Set,
@@ -429,14 +380,14 @@ fn enriched(
         };
         let others = rest.without(i);
         let one = rest.minus(others);
-        let set = seeded(entries, q, all, one, others, depth, level, work);
+        let set = seed(entries, q, all, one, others, depth, level, work);
         listed = also_new(entries, set, listed, level, work);
         rest = others;
     }
 }
 
 // A set grown by the limits that allow none, then by these promises and those, and then by all.
-fn seeded(
+fn seed(
     entries: &[u64],
     q: Question,
     all: Set,
@@ -457,7 +408,7 @@ fn seeded(
 }
 
 // Whether the needs and limits in a set are found to have no solution; that is learnt.
-fn without(
+fn refute(
     entries: &[u64],
     q: Question,
     s: Set,
@@ -631,7 +582,7 @@ fn grown_by(
 }
 
 // The same without a list: the search asks of each set that it comes to whether it can be kept.
-fn by_asking(
+fn probe(
     entries: &[u64],
     q: Question,
     all: Set,
@@ -660,7 +611,8 @@ fn by_asking(
 }
 
 // Lists the largest sets that can be kept, of those that have all of `low` and beyond that only members of `free`: behind the
-// k that are listed, and but for sets that have no need or are inside a listed one.
+// k that are listed, and but for sets that have no need or are inside a listed one. Where not all can be kept, the members of a
+// core cannot: a set that can be kept leaves out the highest of them, or has it and leaves out another one.
 fn largest(
     entries: &[u64],
     q: Question,
@@ -685,44 +637,23 @@ fn largest(
     if keeps(entries, q, high, depth, level, work) {
         return also(entries, high, k, level, work);
     }
-    let core = core_of(entries, q, low, free, depth, level, work);
-    branches(entries, q, low, free, core, k, depth, level, work)
-}
-
-// The same where the members of `core`, a part of `free`, cannot all be kept beside `low`: a set that can be kept leaves out
-// the highest of them, or has it and leaves out another one.
-fn branches(
-    entries: &[u64],
-    q: Question,
-    low: Set,
-    free: Set,
-    core: Set,
-    k: usize,
-    depth: usize,
-    level: usize,
-    work: &mut [u64],
-) -> Listing
-    requires { ⌜ BranchAsked (problemOf (now entries) q) (member low) (member free) (member core) k depth level (now work) ⌝ }
-    ensures { λ r. ⌜ ListingIs (problemOf (now (entries .entry)) q) (member low) (either (member low) (member free)) k depth level
-        (now (work .entry)) (now (work .exit)) r ⌝ }
-{
-    let Highest::At(i) = core.highest() else {
-        return Listing::Room(k);
-    };
-    let others = free.without(i);
-    match largest(entries, q, low, others, k, depth, level, work) {
-        Listing::Room(more) => branches(
-            entries,
-            q,
-            low.with(i),
-            others,
-            core.without(i),
-            more,
-            depth,
-            level,
-            work,
-        ),
-        Listing::Full(all) => Listing::Full(all),
+    let mut core = core_of(entries, q, low, free, depth, level, work);
+    let mut had = low;
+    let mut rest = free;
+    let mut listed = k;
+    loop {
+        let Highest::At(i) = core.highest() else {
+            return Listing::Room(listed);
+        };
+        rest = rest.without(i);
+        match largest(entries, q, had, rest, listed, depth, level, work) {
+            Listing::Room(more) => {
+                listed = more;
+            }
+            Listing::Full(all) => return Listing::Full(all),
+        }
+        had = had.with(i);
+        core = core.without(i);
     }
 }
 
@@ -812,13 +743,13 @@ fn keeps(
     if let Remembered::Answer(known) = recall(work, from, yes, no, false) {
         return known;
     }
-    let found = can_keep(entries, q, promises, depth, level, work);
+    let found = deeper(entries, q, promises, depth, level, work);
     remember(work, from, yes, no, false, found);
     found
 }
 
 // The same by looking for one: a world one less deep, worked in the rest of the lent words.
-fn can_keep(
+fn deeper(
     entries: &[u64],
     q: Question,
     promises: Set,
@@ -830,7 +761,7 @@ fn can_keep(
     ensures { λ r. ⌜ Kept (problemOf (now (entries .entry)) q) promises depth level (now (work .entry)) (now (work .exit)) r ⌝ }
 {
     match promised(entries, q, promises, depth - 1) {
-        Outcome::Settled(v) => world(entries, v, 64, depth - 1, level, &mut work[level..]),
+        Outcome::Settled(v) => world(entries, v, ALL, depth - 1, level, &mut work[level..]),
         Outcome::Clash => false,
     }
 }
