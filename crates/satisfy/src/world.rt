@@ -639,14 +639,14 @@ fn largest(
     }
     let mut core = core_of(entries, q, low, free, depth, level, work);
     let mut had = low;
-    let mut rest = free;
+    let mut left = free;
     let mut listed = k;
     loop {
         let Highest::At(i) = core.highest() else {
             return Listing::Room(listed);
         };
-        rest = rest.without(i);
-        match largest(entries, q, had, rest, listed, depth, level, work) {
+        left = left.without(i);
+        match largest(entries, q, had, left, listed, depth, level, work) {
             Listing::Room(more) => {
                 listed = more;
             }

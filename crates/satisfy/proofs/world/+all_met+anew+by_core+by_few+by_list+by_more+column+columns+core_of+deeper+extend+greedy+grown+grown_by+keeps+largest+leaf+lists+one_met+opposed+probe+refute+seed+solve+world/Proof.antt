@@ -1976,11 +1976,11 @@ probe-loop-again-2 t c = (behind-skip t c .at, c .before .before .before .before
 -- ---- largest
 
 abbrev largest-Inv-loop : largest-lts.InvT-loop
-largest-Inv-loop entries q k depth level work₀ core₀ had₀ rest₀ listed₀ work core had rest listed =
-    Branching (problemOf entries q) (member had₀) (member rest₀) k depth level work₀ (member core) (member had) (member rest) listed work
+largest-Inv-loop entries q k depth level work₀ core₀ had₀ left₀ listed₀ work core had left listed =
+    Branching (problemOf entries q) (member had₀) (member left₀) k depth level work₀ (member core) (member had) (member left) listed work
 
 abbrev largest-μ-loop : largest-lts.MeasureT-loop
-largest-μ-loop entries q k depth level work₀ core₀ had₀ rest₀ listed₀ work core had rest listed = count (member core) 64
+largest-μ-loop entries q k depth level work₀ core₀ had₀ left₀ listed₀ work core had left listed = count (member core) 64
 
 largest-returns : (t : ℕ) → largest-lts.Need-returns (largest-calls t) (largest-at t) largest.Post largest-Inv-loop largest-μ-loop
 largest-returns t c =
