@@ -9,8 +9,8 @@ use counting::question;
 use counting::question::Question;
 use packed::word_at;
 use sets::Set;
-use simplex::weights::Sides;
-use simplex::weights::exceeds;
+use simplex::row_weights::Sides;
+use simplex::row_weights::exceeds;
 use std::num;
 use wide::wide_at;
 

@@ -4,9 +4,9 @@ pub mod frame;
 pub mod number;
 pub mod pivot;
 pub mod rounding;
+pub mod row_weights;
 pub mod solve;
 pub mod start;
-pub mod weights;
 
 use frame::BASIS;
 use frame::Frame;
@@ -77,7 +77,7 @@ fn put_copies(s: &mut [u64], f: Frame, k: usize, d: u64) {
 // The values of the columns, in the place of their codes.
 fn hand_out(s: &mut [u64], f: Frame, d: u64) {
     let rows = f.rows;
-    weights::clear(s, 64, frame::sum(64, f.columns));
+    row_weights::clear(s, 64, frame::sum(64, f.columns));
     let mut k: usize = 0;
     while k < rows {
         put_copies(s, f, k, d);
@@ -93,11 +93,11 @@ fn unknown(s: &mut [u64], f: Frame, at: usize, copies: u64) -> Verdict {
 
 // The weights by which row r's variable stays negative, if they refute.
 fn by_row(s: &mut [u64], f: Frame, r: usize) -> Verdict {
-    weights::from_row(s, f, r);
-    if !weights::refute(s, f, 1) {
+    row_weights::from_row(s, f, r);
+    if !row_weights::refute(s, f, 1) {
         return unknown(s, f, 0, MOST);
     }
-    weights::hand_out(s, f);
+    row_weights::hand_out(s, f);
     Verdict::Weights(1)
 }
 
@@ -109,7 +109,7 @@ fn by_vertex(s: &mut [u64], f: Frame, d: u64) -> Verdict {
         return Verdict::Copies;
     }
     if rounding::refutes(s, f, d) {
-        weights::hand_out(s, f);
+        row_weights::hand_out(s, f);
         return Verdict::Weights(d);
     }
     unknown(

@@ -10,7 +10,7 @@ use crate::number::left;
 use crate::number::minus;
 use crate::number::rest;
 use crate::pivot;
-use crate::weights;
+use crate::row_weights;
 use packed::word_at;
 
 // Whether no column has both of two entries.
@@ -104,7 +104,7 @@ fn line_refutes(s: &mut [u64], f: Frame, k: usize, d: u64) -> bool {
         return false;
     }
     from_line(s, f, k, d);
-    weights::refute(s, f, d)
+    row_weights::refute(s, f, d)
 }
 
 // Whether the weights by some line do; they are then in their place.

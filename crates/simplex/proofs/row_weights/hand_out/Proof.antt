@@ -1,26 +1,25 @@
--- `from_row` is safe and ends. The invariant: the words keep their length. The measure is what is left to do.
+-- `hand_out` is safe and ends. The invariant: the words keep their length. The measure is what is left to do.
 use mathlib.Core.Path.{_≡_}
 use Prim.Native.Nat.{_-_}
 use lib.ListN.{length}
 use borrow.Author.Needs.{needs}
-use Rattle.simplex.proofs.weights.from_row.Statement.{statement}
-use Rattle.simplex.proofs.weights.from_row.Tie as tie
+use Rattle.simplex.proofs.row_weights.hand_out.Statement.{statement}
+use Rattle.simplex.proofs.row_weights.hand_out.Tie as tie
 
 abbrev Inv-loop : tie.InvT-loop
-Inv-loop s₀ f r rows k₀ s k = length s ≡ length s₀
+Inv-loop s₀ f rows k₀ s k = length s ≡ length s₀
 
 abbrev μ-loop : tie.MeasureT-loop
-μ-loop s₀ f r rows k₀ s k = rows - k
+μ-loop s₀ f rows k₀ s k = rows - k
 
-pub from-row-spec : {M : Type 1} → statement M
-from-row-spec =
+pub hand-out-spec : {M : Type 1} → statement M
+hand-out-spec =
     tie.close
     (tie.spec
     Inv-loop
     μ-loop
+    (λ c κs. search needs)
     (λ c. search needs)
-    (λ c κs. search needs)
-    (λ c κs. search needs)
     (λ c κs. search needs)
     (λ c κs. search needs)
     (λ c κs. search needs)

@@ -1,8 +1,8 @@
 -- `refute` is safe and ends. The measure is what is left to do.
 use Prim.Native.Nat.{_-_}
 use borrow.Author.Needs.{needs}
-use Rattle.simplex.proofs.weights.refute.Statement.{statement}
-use Rattle.simplex.proofs.weights.refute.Tie as tie
+use Rattle.simplex.proofs.row_weights.refute.Statement.{statement}
+use Rattle.simplex.proofs.row_weights.refute.Tie as tie
 
 abbrev Inv-loop : tie.InvT-loop
 Inv-loop s f r columns v₀ v = Unit {0}

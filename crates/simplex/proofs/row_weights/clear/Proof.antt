@@ -3,8 +3,8 @@ use mathlib.Core.Path.{_≡_}
 use Prim.Native.Nat.{_-_}
 use lib.ListN.{length}
 use borrow.Author.Needs.{needs}
-use Rattle.simplex.proofs.weights.clear.Statement.{statement}
-use Rattle.simplex.proofs.weights.clear.Tie as tie
+use Rattle.simplex.proofs.row_weights.clear.Statement.{statement}
+use Rattle.simplex.proofs.row_weights.clear.Tie as tie
 
 abbrev Inv-loop : tie.InvT-loop
 Inv-loop s₀ from to i₀ s i = length s ≡ length s₀

@@ -1,8 +1,8 @@
 -- `of_column` is safe and ends. The measure is what is left to do.
 use Prim.Native.Nat.{_-_}
 use borrow.Author.Needs.{needs}
-use Rattle.simplex.proofs.weights.of_column.Statement.{statement}
-use Rattle.simplex.proofs.weights.of_column.Tie as tie
+use Rattle.simplex.proofs.row_weights.of_column.Statement.{statement}
+use Rattle.simplex.proofs.row_weights.of_column.Tie as tie
 
 abbrev Inv-loop : tie.InvT-loop
 Inv-loop s f v rows c sides₀ k₀ sides k = Unit {0}
