@@ -1,19 +1,19 @@
 // Weights that refute a counting problem, or copies of its columns that solve it, found by the simplex method. Nothing is
 // promised of what is found: whoever asks checks it.
-pub mod frame;
-pub mod number;
-pub mod pivot;
 pub mod rounding;
 pub mod row_weights;
-pub mod solve;
-pub mod start;
 
-use frame::BASIS;
-use frame::Frame;
-use number::left;
-use pivot::Choice;
+use pivoting::frame;
+use pivoting::frame::BASIS;
+use pivoting::frame::Frame;
+use pivoting::number;
+use pivoting::number::left;
+use pivoting::pivot;
+use pivoting::pivot::Choice;
+use pivoting::solve;
+use pivoting::solve::Stage;
+use pivoting::start;
 use sets::Set;
-use solve::Stage;
 
 // The copies to try first where nothing speaks for a number: as many as are of use.
 const MOST: u64 = 65536;

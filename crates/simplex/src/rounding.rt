@@ -1,17 +1,17 @@
 // Weights with a divisor, for a problem that fractions of columns solve and whole ones may not. A need and a limit are
 // mates if they have the same bound and no column has both: an exact number is asked for. Mates get the same weight, that of
 // a line of the matrix over d, so the columns of the basis have multiples of d; where the bounds have none, that refutes.
-use crate::frame;
-use crate::frame::Frame;
-use crate::frame::MATES;
-use crate::frame::MATRIX;
-use crate::frame::WEIGHTS;
-use crate::number::left;
-use crate::number::minus;
-use crate::number::rest;
-use crate::pivot;
 use crate::row_weights;
 use packed::word_at;
+use pivoting::frame;
+use pivoting::frame::Frame;
+use pivoting::frame::MATES;
+use pivoting::frame::MATRIX;
+use pivoting::frame::WEIGHTS;
+use pivoting::number::left;
+use pivoting::number::minus;
+use pivoting::number::rest;
+use pivoting::pivot;
 
 // Whether no column has both of two entries.
 fn apart(s: &[u64], columns: usize, a: usize, b: usize) -> bool {

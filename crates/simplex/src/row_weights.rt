@@ -1,13 +1,13 @@
 // Weights on the rows: whether they refute the problem, and the answer made of them.
-use crate::frame;
-use crate::frame::Frame;
-use crate::frame::MATRIX;
-use crate::frame::WEIGHTS;
-use crate::number::is_negative;
-use crate::number::plus;
-use crate::number::product;
-use crate::number::size;
 use packed::word_at;
+use pivoting::frame;
+use pivoting::frame::Frame;
+use pivoting::frame::MATRIX;
+use pivoting::frame::WEIGHTS;
+use pivoting::number::is_negative;
+use pivoting::number::plus;
+use pivoting::number::product;
+use pivoting::number::size;
 
 // A weighted sum of needs and one of limits.
 pub struct Sides {
