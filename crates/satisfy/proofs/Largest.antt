@@ -29,7 +29,7 @@ use Rattle.counting.specs.declared.question.Question.{Question}
 use Rattle.counting.specs.Question.{problemOf, NoNeed, Closed}
 use Rattle.listed.specs.Codes.{codesFrom, Inside}
 use Rattle.listed.proofs.Codes.{codes-alike}
-use Rattle.selection.specs.Relaxing.{SameBelow}
+use Rattle.relaxing.specs.Relaxing.{SameBelow}
 use Rattle.satisfy.specs.declared.listing.Guess.{Guess}
 use Rattle.satisfy.specs.declared.listing.Listing.{Listing}
 use Rattle.wants.proofs.Members.{count-removed}

@@ -21,9 +21,9 @@ use Rattle.counting.proofs.Slots.{slots-same}
 use Rattle.counting.proofs.Standing.{serving-bound, serving-few}
 use Rattle.listed.specs.Codes.{codesFrom}
 use Rattle.listed.proofs.Codes.{codes-alike}
-use Rattle.selection.specs.declared.relaxing.Relaxed.{Relaxed}
-use Rattle.selection.specs.Relaxing.{Relaxing, SameBelow, Seen}
-use Rattle.selection.proofs.Below.{slot-below}
+use Rattle.relaxing.specs.declared.Relaxed.{Relaxed}
+use Rattle.relaxing.specs.Relaxing.{Relaxing, SameBelow, Seen}
+use Rattle.relaxing.proofs.Below.{slot-below}
 use Rattle.selection.specs.Selecting.{stackRoom, ListAsked, SolvedIs, Selecting, Unchanged, Selected}
 
 -- ---- what stays as it is

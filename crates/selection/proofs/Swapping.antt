@@ -20,9 +20,9 @@ use Rattle.tableau.proofs.Extend.{ext-done, ext-inserted}
 use Rattle.counting.specs.Stack.{slotsOf}
 use Rattle.listed.specs.Codes.{codesFrom}
 use Rattle.listed.proofs.Codes.{code-listed, listed-place}
-use Rattle.selection.specs.Relaxing.{SameBelow}
+use Rattle.relaxing.specs.Relaxing.{SameBelow}
 use Rattle.selection.specs.Selecting.{Selecting, Swapped, Unchanged, Selected}
-use Rattle.selection.proofs.Below.{slot-below}
+use Rattle.relaxing.proofs.Below.{slot-below}
 use Rattle.selection.proofs.Selecting.{same-slots, selecting-same, selecting-space}
 
 -- sets that are all listed elsewhere can be taken from there

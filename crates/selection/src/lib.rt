@@ -10,12 +10,8 @@ ghost use Rattle.sets.specs.Set.{code};
 ghost use Rattle.counting.specs.Question.{problemOf};
 ghost use Rattle.counting.specs.Stack.{slotsOf};
 ghost use Rattle.listed.specs.Codes.{codesFrom};
-ghost use Rattle.selection.specs.Relaxing.{Relaxing};
+ghost use Rattle.relaxing.specs.Relaxing.{Relaxing};
 ghost use Rattle.selection.specs.Selecting.{ListAsked, SolvedIs, Selecting, Varying, Between, Swapped, Selected, Tried, Varied};
-
-pub mod pricing;
-pub mod relaxing;
-
 use counting::bounds;
 use counting::question::Question;
 use counting::stack;

@@ -38,7 +38,7 @@ use Rattle.counting.proofs.bounds.met.Reads as met-reads
 use Rattle.counting.proofs.bounds.useful.Reads as useful-reads
 use Rattle.counting.proofs.stack.put_slot.Reads as put-slot-reads
 use Rattle.packed.proofs.word_at.Reads as word-at-reads
-use Rattle.selection.proofs.relaxing.seen.Reads as seen-reads
+use Rattle.relaxing.proofs.seen.Reads as seen-reads
 use Rattle.selection.proofs.smaller.Reads as smaller-reads
 use Rattle.selection.proofs.spanned.Reads as spanned-reads
 use Rattle.selection.proofs.swap.Reads as swap-reads

@@ -82,10 +82,10 @@ use Rattle.satisfy.proofs.promise.parts_of.Reads as parts-of-reads
 use Rattle.satisfy.proofs.promise.promised.Reads as promised-reads
 use Rattle.satisfy.proofs.relation.counted.Reads as counted-reads
 use Rattle.satisfy.proofs.relation.question_of.Reads as question-of-reads
-use Rattle.selection.proofs.pricing.flat.Reads as flat-reads
-use Rattle.selection.proofs.pricing.heaviest.Reads as heaviest-reads
-use Rattle.selection.proofs.pricing.pays.Reads as pays-reads
-use Rattle.selection.proofs.pricing.weighted.Reads as weighted-reads
+use Rattle.pricing.proofs.flat.Reads as flat-reads
+use Rattle.pricing.proofs.heaviest.Reads as heaviest-reads
+use Rattle.pricing.proofs.pays.Reads as pays-reads
+use Rattle.pricing.proofs.weighted.Reads as weighted-reads
 use Rattle.sets.proofs.Set.empty.Reads as empty-reads
 use Rattle.sets.proofs.Set.highest.Reads as highest-reads
 use Rattle.sets.proofs.Set.intersection.Reads as intersection-reads

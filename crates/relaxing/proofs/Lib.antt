@@ -1,0 +1,2 @@
+-- the words behind the list are written
+pub mod Below

@@ -1,0 +1,2 @@
+-- what the relaxation of a search is given, and what it answers
+pub mod Relaxing
