@@ -22,7 +22,7 @@ use Rattle.table.specs.Check.{tableVerdict}
 use Rattle.tableau.specs.Wants.{Answers, truthAt, Sat}
 use Rattle.wide.specs.Wide.{wideAt, Widened}
 use Rattle.wide.proofs.Widening.{wide-weight, wide-formed, wide-stands}
-use Rattle.satisfy.specs.Asking.{Roomy}
+use Rattle.cases.specs.Levels.{Roomy}
 use Rattle.satisfy.specs.Sets.{SetsAsked}
 use Rattle.decision.specs.Ask.{TableAsked}
 use Rattle.decision.proofs.Deciding.{accepted-small}

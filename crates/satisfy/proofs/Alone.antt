@@ -1,5 +1,4 @@
 -- A relation's answer may be kept under the question of its needs and limits alone, and found there again.
-use mathlib.Core.Path.{_≡_}
 use mathlib.Core.Bool.{Bool}
 use mathlib.Core.List.{List}
 use Prim.Native.Nat.{ℕ}
@@ -7,13 +6,12 @@ use Rattle.sets.specs.declared.Set.{Set}
 use Rattle.sets.specs.Set.{member}
 use Rattle.wide.specs.Wide.{wideAt}
 use Rattle.tableau.specs.Wants.{Answers, Sat}
-use Rattle.table.proofs.Accepted.{WellFormed}
-use Rattle.tableau.specs.Search.{asking, Solvable}
-use Rattle.tableau.proofs.Alone.{alone-solution, alone-told, alone-recalled}
+use Rattle.tableau.specs.Search.{Solvable}
+use Rattle.tableau.proofs.Alone.{alone-told, alone-recalled}
 use Rattle.counting.specs.declared.question.Question.{Question}
-use Rattle.counting.specs.Question.{problemOf, Small}
+use Rattle.counting.specs.Question.{problemOf}
+use Rattle.promises.specs.Listing.{NarrowedIs}
 use Rattle.satisfy.specs.Asking.{RelationAsked}
-use Rattle.satisfy.specs.Listing.{NarrowedIs}
 
 module _ (entries : List ℕ) {q p : Question} {all : Set} {depth level : ℕ} {work : List ℕ} (asked : RelationAsked (problemOf entries q) all depth level work)
     (narrow : NarrowedIs q all p) where
@@ -26,10 +24,3 @@ module _ (entries : List ℕ) {q p : Question} {all : Set} {depth level : ℕ} {
   relation-told a found =
       rw (narrow .yes, narrow .no, asked .problem .all-asking)
       (alone-told (wideAt entries) (member (q .yes)) (member (q .no)) (q .relation) (asked .problem .promising .formed) (asked .problem .promising .below) (asked .positive) a found)
-
--- needs and limits without a solution: no world is as they alone want
-pub refuted-told : (entries : List ℕ) {q p : Question} {all : Set} → WellFormed (wideAt entries) (problemOf entries q .n) → Small (problemOf entries q)
-    → member all ≡ asking (problemOf entries q) → NarrowedIs q all p → (Solvable (problemOf entries q) → ⊥)
-    → Sat (wideAt entries) (member (p .yes)) (member (p .no)) → ⊥
-refuted-told entries {q} formed small is narrow none sat =
-    none (alone-solution (wideAt entries) (member (q .yes)) (member (q .no)) (q .relation) formed (small .below) (rw (narrow .yes, narrow .no, is) at sat))

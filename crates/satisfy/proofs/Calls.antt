@@ -26,11 +26,12 @@ use Rattle.counting.specs.declared.question.Question.{Question}
 use Rattle.counting.specs.Question.{Small}
 use Rattle.wants.specs.declared.Wants.{Wants}
 use Rattle.wants.proofs.Members.{count-removed}
-use Rattle.satisfy.specs.World.{SatW, Ready}
-use Rattle.satisfy.specs.Promise.{Promising, Promised}
-use Rattle.satisfy.specs.Relation.{counting, Bounded, QuestionOf}
-use Rattle.satisfy.specs.Asking.{Roomy, Remembers, ProblemAsked}
-use Rattle.satisfy.proofs.Promises.{counting-depth}
+use Rattle.cases.specs.World.{SatW, Ready}
+use Rattle.cases.specs.Levels.{Roomy, Remembers}
+use Rattle.promises.specs.Promise.{Promising, Promised}
+use Rattle.promises.specs.Relation.{counting, Bounded, QuestionOf}
+use Rattle.promises.proofs.Promises.{counting-depth}
+use Rattle.satisfy.specs.Asking.{ProblemAsked}
 
 module _ {entry : ℕ → Entry} {n : ℕ} {w : Wants} {bound depth : ℕ} (ready : Ready entry n w bound depth) where
   -- nothing is pending

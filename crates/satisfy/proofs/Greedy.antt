@@ -17,8 +17,8 @@ use Rattle.memory.proofs.Moved.{memory-moved}
 use Rattle.counting.specs.Stack.{slotAt, slotsOf, Put}
 use Rattle.counting.proofs.Slots.{slots-same, put-slots, put-copies}
 use Rattle.counting.proofs.Standing.{serving-bound, serving-more}
-use Rattle.satisfy.specs.Promise.{Promising}
-use Rattle.satisfy.specs.Asking.{Roomy, Remembers}
+use Rattle.cases.specs.Levels.{Roomy, Remembers}
+use Rattle.promises.specs.Promise.{Promising}
 use Rattle.satisfy.specs.Greedy.{FitIfAny, Taken}
 
 -- only where the promises lie depends on them

@@ -3,13 +3,12 @@
 use mathlib.Core.Path.{_≡_, refl, sym, ap, _∙_}
 use mathlib.Core.Logic.{inl, inr, ⊎-elim, by-cases}
 use mathlib.Core.Bool.{Bool, true, false, not, _||_, false≢true}
-use mathlib.Core.List.{List, _++_}
+use mathlib.Core.List.{List}
 use Prim.Native.Nat.{ℕ, suc, _+_, _-_, _*_, _<_, _≤_, zero-le}
 use native.Mathlib.Nat.{suc-mul}
 use native.Mathlib.Decide.{ℕ-discrete}
 use native.Mathlib.Omega.{arith}
-use lib.ListN.{length, getD, take, drop}
-use lib.Seq.{getD-take, take-take, take-at}
+use lib.ListN.{length, take}
 use lib.Dec.{eqb}
 use borrow.Author.Tests.{eqb-true, eq-eqb, ne-eqb}
 use Rattle.semantics.specs.Structure.{count}
@@ -28,16 +27,16 @@ use Rattle.wide.specs.Wide.{wideAt}
 use Rattle.counting.specs.declared.question.Question.{Question}
 use Rattle.counting.specs.Question.{problemOf, NoNeed, Closed}
 use Rattle.listed.specs.Codes.{codesFrom, Inside}
-use Rattle.listed.proofs.Codes.{codes-alike}
-use Rattle.relaxing.specs.Relaxing.{SameBelow}
-use Rattle.satisfy.specs.declared.listing.Guess.{Guess}
-use Rattle.satisfy.specs.declared.listing.Listing.{Listing}
+use Rattle.promises.specs.declared.listing.Listing.{Listing}
+use Rattle.satisfy.specs.declared.answers.Guess.{Guess}
 use Rattle.wants.proofs.Members.{count-removed}
-use Rattle.satisfy.specs.Promise.{Promising}
-use Rattle.satisfy.specs.Asking.{listRoom, Roomy, Remembers}
+use Rattle.cases.specs.Levels.{listRoom, Roomy, Remembers}
+use Rattle.promises.specs.Promise.{Promising}
+use Rattle.promises.specs.Listing.{Placed, listOf, AlsoIs, AlsoNew, Lists, FitList, NarrowedIs}
+use Rattle.promises.proofs.Promises.{promise-below, promising-fewer}
+use Rattle.promises.proofs.Lent.{list-kept}
 use Rattle.satisfy.specs.Greedy.{FitIfAny}
-use Rattle.satisfy.specs.Listing.{Placed, listOf, AlsoIs, AlsoNew, Unkept, Reaches, Lists, FitList, ListedMore, ListingIs, GuessIs, NarrowedIs}
-use Rattle.satisfy.proofs.Promises.{promise-below, promising-fewer}
+use Rattle.satisfy.specs.Largest.{Unkept, Reaches, ListedMore, ListingIs, GuessIs}
 use Rattle.satisfy.proofs.Worlds.{room-level}
 
 -- ---- sets
@@ -96,32 +95,6 @@ room-list room = omega (arith, room .stack)
 
 pub room-placed : (P : Problem) {k depth level words : ℕ} → P .n ≤ 64 → Roomy (P .entry) (P .n) depth level words → k ≤ listRoom (P .n) → Placed (P .n) k level words
 room-placed P few room some = record { few = few; some = some; room = room-list room; inside = room-level room }
-
-module _ (n : ℕ) {k level : ℕ} (some : k ≤ listRoom n) (room : listRoom n ≤ level) (before after : List ℕ) where
-  pub list-kept : take level after ≡ take level before → listOf n level after k ≡ listOf n level before k
-  list-kept same = codes-alike before after (level - listRoom n) k
-      (λ j l. let inside : level - listRoom n + j < level = omega arith in
-      sym (getD-take level after _ 0 inside) ∙ ap (λ (l : List ℕ). getD l (level - listRoom n + j) 0) same ∙ getD-take level before _ 0 inside)
-
--- the words of the level are among those that are lent
-pub list-lent : (n k level reach : ℕ) (work : List ℕ) → k ≤ listRoom n → listRoom n ≤ level → level ≤ reach → listOf n level (take reach work) k ≡ listOf n level work k
-list-lent n k level reach work some room inside = list-kept n some room work (take reach work) (take-take level reach work inside)
-
--- the words of all levels were lent, and the list is as before
-pub lists-lent : (P : Problem) {k level reach : ℕ} (work front : List ℕ) → listRoom (P .n) ≤ level → level ≤ reach → length front ≡ reach
-    → SameBelow (level - listRoom (P .n) + k) (take reach work) front → Lists P k level work → Lists P k level (front ++ drop reach work)
-lists-lent P {k} {level} {reach} work front room inside as-many same lists = record {
-  some = lists .some;
-  fit = λ b h. lists .fit b (rw (codes-alike work (front ++ drop reach work) (level - listRoom (P .n)) k alike) at h);
-}
-  where
-    alike : (j : ℕ) → j < k → getD (front ++ drop reach work) (level - listRoom (P .n) + j) 0 ≡ getD work (level - listRoom (P .n) + j) 0
-    alike j l =
-        let below : level - listRoom (P .n) + j < reach = omega (arith, lists .some) in
-        sym (getD-take reach (front ++ drop reach work) _ 0 below)
-        ∙ ap (λ (words : List ℕ). getD words (level - listRoom (P .n) + j) 0) (take-at front (drop reach work) reach as-many)
-        ∙ same .word _ (omega arith)
-        ∙ getD-take reach work _ 0 below
 
 module _ (P : Problem) where
   pub lists-kept : {k level : ℕ} → listRoom (P .n) ≤ level → (before after : List ℕ) → take level after ≡ take level before → Lists P k level before → Lists P k level after

@@ -1,19 +1,7 @@
--- the two cases of a split
-pub mod Splitting
--- what follows without a split
-pub mod Forcing
--- the promises of a successor, one after the other
-pub mod Promises
--- the parts of the promises, as a question of their own
-pub mod Parts
--- the counting entries, entry by entry
-pub mod Counted
 -- from worlds to relations and back
 pub mod Worlds
 -- two entries that exclude each other
 pub mod Pairs
--- answers that are kept behind the levels
-pub mod Recalling
 -- a relation's answer, under the question of its needs and limits alone
 pub mod Alone
 -- slots that are taken greedily

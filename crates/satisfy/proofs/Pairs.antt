@@ -18,10 +18,10 @@ use Rattle.tableau.proofs.Bounds.{bound-made, bound-cases, bound-speaks}
 use Rattle.tableau.proofs.Opposed.{pair-within, opposed}
 use Rattle.counting.specs.declared.question.Question.{Question}
 use Rattle.counting.specs.Question.{problemOf, Exceeds, Closed}
-use Rattle.satisfy.specs.Promise.{Promising}
+use Rattle.promises.specs.Promise.{Promising}
+use Rattle.promises.specs.Listing.{NarrowedIs}
+use Rattle.promises.proofs.Promises.{promise-below, promising-fewer}
 use Rattle.satisfy.specs.Asking.{ProblemAsked}
-use Rattle.satisfy.specs.Listing.{NarrowedIs}
-use Rattle.satisfy.proofs.Promises.{promise-below, promising-fewer}
 use Rattle.satisfy.proofs.Largest.{either-left, either-right, either-made, narrowed-fewer}
 
 pub within-removed : {p q : ℕ → Bool} (i : ℕ) → Within p q → Within (removed p i) q

@@ -17,9 +17,9 @@ use Rattle.tableau.proofs.Tests.{both-parts}
 use Rattle.wants.specs.declared.Wants.{Wants}
 use Rattle.wants.specs.declared.Outcome.{Outcome}
 use Rattle.wants.specs.Outcome.{MeetsW, SettledW, Asked, Taken, Refuted}
-use Rattle.satisfy.specs.World.{SatW}
+use Rattle.cases.specs.World.{SatW}
+use Rattle.promises.proofs.Promises.{empty-settled}
 use Rattle.satisfy.specs.Sets.{SetAsked, Taking, TakenIs, SetsAsked, Settling, SettlingIs}
-use Rattle.satisfy.proofs.Promises.{empty-settled}
 
 module _ (entry : ℕ → Entry) (n : ℕ) (b : Bool) (set : ℕ → Bool) (w : Wants) where
   pub taking-none : SettledW entry n w → Taking entry n b set set w w

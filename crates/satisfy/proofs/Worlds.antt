@@ -18,12 +18,13 @@ use Rattle.tableau.proofs.Solved.{solved}
 use Rattle.tableau.proofs.Built.{built}
 use Rattle.wants.specs.declared.Wants.{Wants}
 use Rattle.wants.specs.Outcome.{MeetsW}
-use Rattle.satisfy.specs.World.{SatW, CaseOf, Ready, Waiting, Branch}
-use Rattle.satisfy.specs.Force.{Forced}
-use Rattle.satisfy.specs.Relation.{counting}
-use Rattle.satisfy.specs.Asking.{Roomy, Solving, AllSolved, CountAnswers}
-use Rattle.satisfy.proofs.Splitting.{ready-wider, waiting, cases}
-use Rattle.satisfy.proofs.Forcing.{forced-back, forced-forth}
+use Rattle.cases.specs.World.{SatW, CaseOf, Ready, Waiting, Branch}
+use Rattle.cases.specs.Force.{Forced}
+use Rattle.cases.specs.Levels.{Roomy}
+use Rattle.cases.proofs.Splitting.{ready-wider, waiting, cases}
+use Rattle.cases.proofs.Forcing.{forced-back, forced-forth}
+use Rattle.promises.specs.Relation.{counting}
+use Rattle.satisfy.specs.Asking.{Solving, AllSolved, CountAnswers}
 
 -- What is left to be looked into while w is split: some world is as w wants exactly where some world is as v wants, of which nothing is
 -- pending from `top` on.

@@ -2,41 +2,21 @@
 use mathlib.Core.Path.{_≡_}
 use mathlib.Core.Bool.{Bool, true, false}
 use mathlib.Core.List.{List}
-use Prim.Native.Nat.{ℕ, suc, _+_, _-_, _*_, _<_, _≤_}
+use Prim.Native.Nat.{ℕ, _-_, _<_}
 use lib.ListN.{length, take}
 use Rattle.sets.specs.declared.Set.{Set}
 use Rattle.sets.specs.Set.{member, nothing, code, Within}
 use Rattle.table.specs.declared.entry.Entry.{Entry}
-use Rattle.table.specs.Space.{gradeSum}
 use Rattle.tableau.specs.Wants.{Answers}
 use Rattle.tableau.specs.Counting.{Solution}
 use Rattle.tableau.specs.Search.{Problem, asking, Fit, Solvable}
-use Rattle.memory.specs.Memory.{Memory}
 use Rattle.wants.specs.declared.Wants.{Wants}
-use Rattle.satisfy.specs.World.{SatW, Ready}
-use Rattle.satisfy.specs.Promise.{Promising}
-use Rattle.satisfy.specs.Relation.{counting}
-
--- how many sets of promises can be listed for n entries
-abbrev pub listRoom : ℕ → ℕ
-listRoom n = 8 * n + 8
-
--- There are words for this depth: a level of them for each depth down to 0, and a level has room for the stack of a search and a list of sets.
-pub record Roomy (entry : ℕ → Entry) (n depth level words : ℕ) : Type 0 where
-  pub stack : 2 * gradeSum entry n + 2 + listRoom n ≤ level
-  pub levels : suc depth * level ≤ words
-
--- the answers kept behind the levels are right
-abbrev pub Remembers : (ℕ → Entry) → (depth level : ℕ) → List ℕ → Type 0
-Remembers entry depth level work = Memory entry work (suc depth * level)
+use Rattle.cases.specs.World.{SatW, Ready}
+use Rattle.cases.specs.Levels.{Roomy, Remembers}
+use Rattle.promises.specs.Promise.{Promising}
+use Rattle.promises.specs.Relation.{counting}
 
 module _ (entry : ℕ → Entry) where
-  pub record WorldAsked (n : ℕ) (w : Wants) (bound depth level : ℕ) (work : List ℕ) : Type 0 where
-    pub ready : Ready entry n w bound depth
-    pub small : bound ≤ 64
-    pub room : Roomy entry n depth level (length work)
-    pub memory : Remembers entry depth level work
-
   -- the relations are asked for solutions, whatever is pending
   pub record CountAsked (n : ℕ) (w : Wants) (depth level : ℕ) (work : List ℕ) : Type 0 where
     pub ready : Ready entry n w 64 depth

@@ -9,8 +9,8 @@ use Rattle.sets.specs.declared.Set.{Set}
 use Rattle.sets.specs.Set.{member, nothing, code, either}
 use Rattle.tableau.specs.Search.{Problem, Each, Fit, Kept, Serving, Solvable}
 use Rattle.counting.specs.Stack.{slotsOf, FewCopies}
-use Rattle.satisfy.specs.Promise.{Promising}
-use Rattle.satisfy.specs.Asking.{Roomy, Remembers}
+use Rattle.cases.specs.Levels.{Roomy, Remembers}
+use Rattle.promises.specs.Promise.{Promising}
 
 module _ (P : Problem) where
   -- the set can be kept, if it is not empty

@@ -13,8 +13,8 @@ use Rattle.tableau.specs.Wants.{truthAt, wanted, Sat}
 use Rattle.wants.specs.declared.Wants.{Wants}
 use Rattle.wants.specs.declared.Outcome.{Outcome}
 use Rattle.wants.specs.Outcome.{wantedW, GrowsW, MeetsW, SettledW}
-use Rattle.satisfy.specs.World.{SatW, Ready}
-use Rattle.satisfy.specs.Asking.{Roomy, Remembers}
+use Rattle.cases.specs.World.{SatW, Ready}
+use Rattle.cases.specs.Levels.{Roomy, Remembers}
 
 module _ (entry : ℕ → Entry) where
   -- every entry of the set is b at the world v of s

@@ -9,8 +9,8 @@ use Rattle.table.specs.Space.{tableWork}
 use Rattle.table.proofs.Accepted.{accepted}
 use Prim.Native.Nat.{_/_}
 use Rattle.wide.specs.Wide.{wideAt}
+use Rattle.cases.proofs.Recalling.{from-fits, memory-to}
 use Rattle.satisfy.proofs.Calls.{room-kept}
-use Rattle.satisfy.proofs.Recalling.{from-fits, memory-to}
 use Rattle.decision.proofs.Deciding.{accepted-small}
 use Rattle.decision.proofs.Question.{sets-asked, sets-room, sets-answer}
 use Rattle.decision.proofs.ask.ask.Statement.{statement}

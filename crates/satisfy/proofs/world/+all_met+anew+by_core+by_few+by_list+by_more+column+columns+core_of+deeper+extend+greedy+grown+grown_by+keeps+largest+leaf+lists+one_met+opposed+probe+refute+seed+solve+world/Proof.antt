@@ -15,19 +15,21 @@ use Rattle.sets.specs.Word.{Greatest}
 use Rattle.wide.specs.Wide.{wideAt}
 use Rattle.counting.specs.Question.{problemOf, Closed}
 use Rattle.counting.specs.Search.{At, Asked, Nearer, toDo}
-use Rattle.satisfy.specs.World.{SatW, Branch}
-use Rattle.satisfy.specs.Promise.{Promised}
-use Rattle.satisfy.specs.Relation.{counting}
-use Rattle.satisfy.specs.Asking.{Solving, Roomy, Remembers, listRoom, CountAsked}
+use Rattle.cases.specs.World.{SatW, Branch}
+use Rattle.cases.specs.Levels.{Roomy, Remembers, listRoom}
+use Rattle.promises.specs.Promise.{Promised}
+use Rattle.promises.specs.Relation.{counting}
+use Rattle.promises.proofs.Promises.{promising-fewer, promise-below}
+use Rattle.satisfy.specs.Asking.{Solving, CountAsked}
 use Rattle.satisfy.proofs.Worlds.{solving-none, solving-next, solving-done, solved-world, unsolved, room-below, room-level, Remaining, Fails, remaining-answer, remaining-forced, remaining-second, remaining-none, case-fails, split-below}
-use Rattle.satisfy.proofs.Promises.{promising-fewer, promise-below}
 use Rattle.satisfy.proofs.Pairs.{within-removed, chosen-below, pair-asked, pair-opposed, pair-alone}
 use Rattle.semantics.proofs.Count.{count-le}
 use Rattle.wants.proofs.Members.{count-removed}
+use Rattle.cases.proofs.Recalling.{room-depth, from-fits, memory-from, memory-to, memory-below, memory-above, memory-over, next-same}
 use Rattle.satisfy.proofs.Calls.{ready-leaf, ready-bounded, promised-fit, counting-below, counting-deep, question-small, question-promising, question-positive, count-done, room-kept, length-behind, own-solution, own-no-solution, own-asking, promised-unfit, within-same, problem-kept}
-use Rattle.satisfy.proofs.Recalling.{room-depth, from-fits, memory-from, memory-to, memory-below, memory-above, memory-over, next-same}
 use Rattle.tableau.proofs.Together.{together}
-use Rattle.satisfy.specs.Listing.{Unkept, Lists, FitList, ListingIs, listOf}
+use Rattle.promises.specs.Listing.{Lists, FitList, listOf}
+use Rattle.satisfy.specs.Largest.{Unkept, ListingIs}
 use Rattle.satisfy.proofs.Largest.{either-fewer, either-right, code-above, either-made, added-within, removed-within, unfit-unkept, room-placed, lists-kept, listing-same, listing-from, listing-also, reaches-none, reaches-known, listing-covers, lists-none, listed-new, guess-memory, parts-within, parts-inside, either-left, narrowed-fewer, narrowed-solvable, Branching, branching-done, branching-small, branching-fewer, branching-promising, branching-next, room-list}
 use Rattle.tableau.specs.Search.{asking, Fit}
 use Rattle.tableau.proofs.Tests.{both-parts}
@@ -41,12 +43,12 @@ use Rattle.counting.proofs.Standing.{serving-few}
 use Rattle.satisfy.specs.Greedy.{FitIfAny, Taken}
 use Rattle.satisfy.proofs.Greedy.{promising-of, taken-none, taken-below, taken-kept, taken-room, taken-more, fit-useful, memory-put}
 use Rattle.tableau.specs.Wants.{wanted}
+use Rattle.promises.proofs.Parts.{parts-fit, fit-parts}
 use Rattle.satisfy.proofs.Alone.{relation-recalled, relation-told}
-use Rattle.satisfy.proofs.Parts.{parts-fit, fit-parts}
 use borrow.Fn.Kinds.{In}
 use borrow.Fn.PlainCycle.{Measures, is, falls, and}
-use Rattle.satisfy.proofs.Splitting.{ready-wider}
-use Rattle.satisfy.specs.declared.listing.Listing.{Listing}
+use Rattle.cases.proofs.Splitting.{ready-wider}
+use Rattle.promises.specs.declared.listing.Listing.{Listing}
 use Rattle.counting.proofs.bounds.met.Reads as met-reads
 use Rattle.counting.proofs.bounds.unmet.Reads as unmet-reads
 use Rattle.counting.proofs.bounds.used_up.Reads as used-up-reads
@@ -62,26 +64,26 @@ use Rattle.counting.proofs.start.Reads as start-reads
 use Rattle.counting.proofs.take.Reads as take-reads
 use Rattle.memory.proofs.recall.Reads as recall-reads
 use Rattle.memory.proofs.remember.Reads as remember-reads
-use Rattle.satisfy.proofs.branch.branch.Reads as branch-reads
-use Rattle.satisfy.proofs.force.force.Reads as force-reads
-use Rattle.satisfy.proofs.learning.learn_refuted.Reads as learn-refuted-reads
-use Rattle.satisfy.proofs.learning.learn_world.Reads as learn-world-reads
-use Rattle.satisfy.proofs.listing.also.Reads as also-reads
-use Rattle.satisfy.proofs.listing.also_new.Reads as also-new-reads
-use Rattle.satisfy.proofs.listing.blamed.Reads as blamed-reads
-use Rattle.satisfy.proofs.listing.blamed_behind.Reads as blamed-behind-reads
-use Rattle.satisfy.proofs.listing.foremost.Reads as foremost-reads
-use Rattle.satisfy.proofs.listing.is_short.Reads as is-short-reads
-use Rattle.satisfy.proofs.listing.known.Reads as known-reads
-use Rattle.satisfy.proofs.listing.narrowed.Reads as narrowed-reads
-use Rattle.satisfy.proofs.listing.prices_behind.Reads as prices-behind-reads
-use Rattle.satisfy.proofs.listing.selected.Reads as selected-reads
-use Rattle.satisfy.proofs.listing.weighs.Reads as weighs-reads
-use Rattle.satisfy.proofs.promise.pair.Reads as pair-reads
-use Rattle.satisfy.proofs.promise.parts_of.Reads as parts-of-reads
-use Rattle.satisfy.proofs.promise.promised.Reads as promised-reads
-use Rattle.satisfy.proofs.relation.counted.Reads as counted-reads
-use Rattle.satisfy.proofs.relation.question_of.Reads as question-of-reads
+use Rattle.cases.proofs.branch.branch.Reads as branch-reads
+use Rattle.cases.proofs.force.force.Reads as force-reads
+use Rattle.promises.proofs.learning.learn_refuted.Reads as learn-refuted-reads
+use Rattle.promises.proofs.learning.learn_world.Reads as learn-world-reads
+use Rattle.promises.proofs.listing.also.Reads as also-reads
+use Rattle.promises.proofs.listing.also_new.Reads as also-new-reads
+use Rattle.promises.proofs.listing.blamed.Reads as blamed-reads
+use Rattle.promises.proofs.listing.blamed_behind.Reads as blamed-behind-reads
+use Rattle.promises.proofs.listing.foremost.Reads as foremost-reads
+use Rattle.promises.proofs.listing.is_short.Reads as is-short-reads
+use Rattle.promises.proofs.listing.known.Reads as known-reads
+use Rattle.promises.proofs.listing.narrowed.Reads as narrowed-reads
+use Rattle.promises.proofs.listing.prices_behind.Reads as prices-behind-reads
+use Rattle.promises.proofs.listing.selected.Reads as selected-reads
+use Rattle.promises.proofs.listing.weighs.Reads as weighs-reads
+use Rattle.promises.proofs.promise.pair.Reads as pair-reads
+use Rattle.promises.proofs.promise.parts_of.Reads as parts-of-reads
+use Rattle.promises.proofs.promise.promised.Reads as promised-reads
+use Rattle.promises.proofs.relation.counted.Reads as counted-reads
+use Rattle.promises.proofs.relation.question_of.Reads as question-of-reads
 use Rattle.pricing.proofs.flat.Reads as flat-reads
 use Rattle.pricing.proofs.heaviest.Reads as heaviest-reads
 use Rattle.pricing.proofs.pays.Reads as pays-reads

@@ -1,0 +1,22 @@
+-- `highest_of` meets its contract: what is left of the set without the others.
+use mathlib.Core.Bool.{true}
+use borrow.Author.Needs.{needs}
+use Rattle.sets.specs.Set.{member}
+use Rattle.tableau.proofs.Tests.{both-parts}
+use Rattle.promises.proofs.listing.highest_of.Statement.{statement}
+use Rattle.promises.proofs.listing.highest_of.Tie as tie
+
+returns-2 : tie.Need-returns-2
+returns-2 c i h = both-parts true (member (c .before .before .before .before .before .before .args .set) i) _ (rw (c .minus .ensures) at h) .0
+
+pub highest-of-spec : {M : Type 1} → statement M
+highest-of-spec =
+    tie.close
+    (tie.spec
+    (λ c κs. search needs)
+    (λ c. search needs)
+    (λ c. search needs)
+    (λ c. λ i h. h)
+    (λ c κs. search needs)
+    (λ c κs. search needs)
+    returns-2)

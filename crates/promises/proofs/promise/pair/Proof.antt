@@ -1,0 +1,10 @@
+-- `pair` meets its contract: one number after the other is put in.
+use borrow.Author.Needs.{needs}
+use Rattle.promises.proofs.promise.pair.Statement.{statement}
+use Rattle.promises.proofs.promise.pair.Tie as tie
+
+returns : tie.Need-returns
+returns c = rw (c .with2 .ensures, c .before .with .ensures, c .before .before .empty .ensures)
+
+pub pair-spec : {M : Type 1} → statement M
+pair-spec = tie.close (tie.spec (λ c κs. search needs) (λ c κs. search needs) (λ c κs. search needs) returns)
