@@ -17,40 +17,49 @@ use vectors::tally::Tally;
 
 // A successor of which p and not p is wanted, one step away and two.
 fn clash_below() -> Description {
-    let d = Description::none()
-        .entry(fact(1))
-        .entry(not(0))
-        .entry(and(0, 1));
-    d.entry(at_least(1, 7, 2))
-        .entry(at_least(1, 7, 3))
-        .entry(at_most(0, 7, 3))
-        .entry(at_least(1, 7, 5))
+    Description::of(
+        &[
+            fact(1),
+            not(0),
+            and(0, 1),
+            at_least(1, 7, 2),
+            at_least(1, 7, 3),
+            at_most(0, 7, 3),
+            at_least(1, 7, 5),
+        ],
+    )
 }
 
 // At least 2 whose successors include p, at most so many that have a successor at all.
 fn limited_below(limit: u32) -> Description {
-    let d = Description::none()
-        .entry(TRUE)
-        .entry(fact(1))
-        .entry(at_least(1, 7, 0))
-        .entry(at_least(1, 7, 1));
-    d.entry(at_least(2, 7, 3))
-        .entry(at_most(limit, 7, 2))
-        .entry(and(4, 5))
+    Description::of(
+        &[
+            TRUE,
+            fact(1),
+            at_least(1, 7, 0),
+            at_least(1, 7, 1),
+            at_least(2, 7, 3),
+            at_most(limit, 7, 2),
+            and(4, 5),
+        ],
+    )
 }
 
 // A successor with no successor p, that has one where p and q hold, or else one where q holds, if that is offered.
 fn offered(other: u32) -> Description {
-    let d = Description::none()
-        .entry(fact(1))
-        .entry(fact(2))
-        .entry(and(0, 1))
-        .entry(at_most(0, 7, 0))
-        .entry(at_least(1, 7, 2));
-    d.entry(at_least(1, 7, other))
-        .entry(or(4, 5))
-        .entry(and(3, 6))
-        .entry(at_least(2, 8, 7))
+    Description::of(
+        &[
+            fact(1),
+            fact(2),
+            and(0, 1),
+            at_most(0, 7, 0),
+            at_least(1, 7, 2),
+            at_least(1, 7, other),
+            or(4, 5),
+            and(3, 6),
+            at_least(2, 8, 7),
+        ],
+    )
 }
 
 pub fn nested(before: Tally) -> Tally {

@@ -18,22 +18,26 @@ use vectors::tally::Tally;
 
 // At least 1 of false, at least 0 of false.
 pub fn false_parts(before: Tally) -> Tally {
-    let one = Description::none().entry(FALSE).entry(at_least(1, 7, 0));
-    let none = Description::none().entry(FALSE).entry(at_least(0, 7, 0));
+    let one = Description::of(&[FALSE, at_least(1, 7, 0)]);
+    let none = Description::of(&[FALSE, at_least(0, 7, 0)]);
     let tally = decides_last(before.subject(1000), one, 1, IMPOSSIBLE);
     decides_last(tally, none, 1, POSSIBLE)
 }
 
 // At least 1 of p, at least 1 of not p, at most so many in all.
 fn both(limit: u32) -> Description {
-    let d = Description::none()
-        .entry(fact(1))
-        .entry(not(0))
-        .entry(TRUE)
-        .entry(at_least(1, 7, 0))
-        .entry(at_least(1, 7, 1))
-        .entry(at_most(limit, 7, 2));
-    d.entry(and(3, 4)).entry(and(5, 6))
+    Description::of(
+        &[
+            fact(1),
+            not(0),
+            TRUE,
+            at_least(1, 7, 0),
+            at_least(1, 7, 1),
+            at_most(limit, 7, 2),
+            and(3, 4),
+            and(5, 6),
+        ],
+    )
 }
 
 pub fn both_ways(before: Tally) -> Tally {
@@ -43,18 +47,21 @@ pub fn both_ways(before: Tally) -> Tally {
 
 // At least 3 of p, at least 3 of q, at most 4 in all, at most so many of both.
 fn overlapping(limit: u32) -> Description {
-    let d = Description::none()
-        .entry(fact(1))
-        .entry(fact(2))
-        .entry(TRUE)
-        .entry(and(0, 1))
-        .entry(at_least(3, 7, 0))
-        .entry(at_least(3, 7, 1))
-        .entry(at_most(4, 7, 2));
-    d.entry(at_most(limit, 7, 3))
-        .entry(and(4, 5))
-        .entry(and(6, 7))
-        .entry(and(8, 9))
+    Description::of(
+        &[
+            fact(1),
+            fact(2),
+            TRUE,
+            and(0, 1),
+            at_least(3, 7, 0),
+            at_least(3, 7, 1),
+            at_most(4, 7, 2),
+            at_most(limit, 7, 3),
+            and(4, 5),
+            and(6, 7),
+            and(8, 9),
+        ],
+    )
 }
 
 pub fn overlap(before: Tally) -> Tally {
@@ -64,14 +71,18 @@ pub fn overlap(before: Tally) -> Tally {
 
 // Source 001, section 3.1: at least so many of p, at most 1 of not q, at most 1 of q. Every successor is one of the two.
 fn split_by_q(grade: u32) -> Description {
-    let d = Description::none()
-        .entry(fact(1))
-        .entry(fact(2))
-        .entry(not(1))
-        .entry(at_least(grade, 7, 0))
-        .entry(at_most(1, 7, 2))
-        .entry(at_most(1, 7, 1));
-    d.entry(and(3, 4)).entry(and(5, 6))
+    Description::of(
+        &[
+            fact(1),
+            fact(2),
+            not(1),
+            at_least(grade, 7, 0),
+            at_most(1, 7, 2),
+            at_most(1, 7, 1),
+            and(3, 4),
+            and(5, 6),
+        ],
+    )
 }
 
 pub fn published(before: Tally) -> Tally {
@@ -81,7 +92,7 @@ pub fn published(before: Tally) -> Tally {
 
 // A table with one fact: 47 words are refused, 48 are enough.
 pub fn one_fact(before: Tally) -> Tally {
-    let d = Description::none().entry(fact(1));
+    let d = Description::of(&[fact(1)]);
     let mut tally = refuses(before.subject(5000), d, 0, 47, 10);
     tally = lends(tally, d, 0, 48, 48, POSSIBLE);
     lends(tally, d, 0, 49, 48, POSSIBLE)

@@ -14,11 +14,14 @@ use vectors::tally::Tally;
 
 // At least so many and at most so many of p.
 fn between(least: u32, most: u32) -> Description {
-    Description::none()
-        .entry(fact(1))
-        .entry(at_least(least, 7, 0))
-        .entry(at_most(most, 7, 0))
-        .entry(and(1, 2))
+    Description::of(
+        &[
+            fact(1),
+            at_least(least, 7, 0),
+            at_most(most, 7, 0),
+            and(1, 2),
+        ],
+    )
 }
 
 // A grade with itself as the limit, and with one less.
@@ -69,13 +72,16 @@ pub fn ends(before: Tally) -> Tally {
 
 // 256 of p, which "not at most 255" asks for, with a limit on all: 255 is too few.
 fn more_of_p(part: u32) -> Description {
-    Description::none()
-        .entry(part)
-        .entry(fact(1))
-        .entry(at_most(255, 7, 0))
-        .entry(at_most(255, 7, 1))
-        .entry(not(3))
-        .entry(and(2, 4))
+    Description::of(
+        &[
+            part,
+            fact(1),
+            at_most(255, 7, 0),
+            at_most(255, 7, 1),
+            not(3),
+            and(2, 4),
+        ],
+    )
 }
 
 // The limit on all binds p; a limit on another fact does not.

@@ -49,22 +49,25 @@ pub fn propositional(before: Tally) -> Tally {
 
 // p and not p on one side of an "or", q on the other; then the same with not q beside it. Likewise for a negated "and".
 pub fn alternatives(before: Tally) -> Tally {
-    let mut d = Description::none()
-        .entry(fact(1))
-        .entry(not(0))
-        .entry(and(0, 1))
-        .entry(fact(2))
-        .entry(not(3));
-    d = d.entry(or(2, 3))
-        .entry(or(3, 2))
-        .entry(and(5, 4))
-        .entry(and(6, 4));
-    // Not (p and q), beside p, beside q, beside both.
-    d = d.entry(and(0, 3))
-        .entry(not(9))
-        .entry(and(10, 0))
-        .entry(and(10, 3));
-    d = d.entry(and(11, 12));
+    let d = Description::of(
+        &[
+            fact(1),
+            not(0),
+            and(0, 1),
+            fact(2),
+            not(3),
+            or(2, 3),
+            or(3, 2),
+            and(5, 4),
+            and(6, 4),
+            // Not (p and q), beside p, beside q, beside both.
+            and(0, 3),
+            not(9),
+            and(10, 0),
+            and(10, 3),
+            and(11, 12),
+        ],
+    );
     let mut tally = before.subject(8000);
     tally = decides(tally, d, 5, 0, POSSIBLE);
     tally = decides(tally, d, 6, 0, POSSIBLE);
@@ -101,14 +104,17 @@ pub fn shared(before: Tally) -> Tally {
 
 // Entry 1 says at least 2 of p. Around it stand entries that are impossible or would bind it, and that it does not use.
 pub fn unreached(before: Tally) -> Tally {
-    let mut d = Description::none()
-        .entry(fact(1))
-        .entry(at_least(2, 7, 0))
-        .entry(at_most(1, 7, 0));
-    d = d.entry(not(0))
-        .entry(and(0, 3))
-        .entry(at_least(200, 7, 4))
-        .entry(and(1, 2));
+    let d = Description::of(
+        &[
+            fact(1),
+            at_least(2, 7, 0),
+            at_most(1, 7, 0),
+            not(0),
+            and(0, 3),
+            at_least(200, 7, 4),
+            and(1, 2),
+        ],
+    );
     let mut tally = before.subject(10000);
     tally = decides(tally, d, 1, 1, POSSIBLE);
     tally = decides(tally, d, 2, 1, POSSIBLE);

@@ -17,20 +17,23 @@ use vectors::tally::Tally;
 
 // Both orders of "and" and "or", twice not, and not (p and q) as not p or not q.
 pub fn connectives(before: Tally) -> Tally {
-    let mut d = Description::none()
-        .entry(fact(1))
-        .entry(fact(2))
-        .entry(and(0, 1))
-        .entry(and(1, 0))
-        .entry(or(0, 1))
-        .entry(or(1, 0));
-    d = d.entry(not(0))
-        .entry(not(6))
-        .entry(not(1))
-        .entry(not(2))
-        .entry(or(6, 8))
-        .entry(not(4))
-        .entry(and(6, 8));
+    let d = Description::of(
+        &[
+            fact(1),
+            fact(2),
+            and(0, 1),
+            and(1, 0),
+            or(0, 1),
+            or(1, 0),
+            not(0),
+            not(6),
+            not(1),
+            not(2),
+            or(6, 8),
+            not(4),
+            and(6, 8),
+        ],
+    );
     let mut tally = before.subject(6000);
     tally = marks(tally, d, pair(2, 3), 0, EQUAL);
     tally = marks(tally, d, pair(4, 5), 0, EQUAL);
@@ -43,12 +46,15 @@ pub fn connectives(before: Tally) -> Tally {
 // At least n is not at most n-1, and at most n is not at least n+1.
 fn turned(tally: Tally, grade: u32) -> Tally {
     let less = std::num::wrapping_sub_u32(grade, 1);
-    let d = Description::none()
-        .entry(fact(1))
-        .entry(at_least(grade, 7, 0))
-        .entry(at_most(less, 7, 0))
-        .entry(not(1))
-        .entry(not(2));
+    let d = Description::of(
+        &[
+            fact(1),
+            at_least(grade, 7, 0),
+            at_most(less, 7, 0),
+            not(1),
+            not(2),
+        ],
+    );
     let after = marks(tally, d, pair(1, 4), 1, EQUAL);
     marks(after, d, pair(2, 3), 1, EQUAL)
 }
@@ -65,27 +71,30 @@ pub fn negated(before: Tally) -> Tally {
 // At most 0 of (p or q) is at most 0 of each; at least 1 of (p or q) is one or the other; at least 1 of (p and q) says more
 // than at least 1 of each; at least 2 in all follows from at least 1 of p and 1 of not p.
 pub fn distributed(before: Tally) -> Tally {
-    let mut d = Description::none()
-        .entry(fact(1))
-        .entry(fact(2))
-        .entry(or(0, 1))
-        .entry(and(0, 1))
-        .entry(at_most(0, 7, 2));
-    d = d.entry(at_most(0, 7, 0))
-        .entry(at_most(0, 7, 1))
-        .entry(and(5, 6))
-        .entry(at_least(1, 7, 2))
-        .entry(at_least(1, 7, 0));
-    d = d.entry(at_least(1, 7, 1))
-        .entry(or(9, 10))
-        .entry(and(9, 10))
-        .entry(at_least(1, 7, 3));
-    // Entries 14 to 18.
-    d = d.entry(TRUE)
-        .entry(at_least(2, 7, 14))
-        .entry(not(0))
-        .entry(at_least(1, 7, 16))
-        .entry(and(9, 17));
+    let d = Description::of(
+        &[
+            fact(1),
+            fact(2),
+            or(0, 1),
+            and(0, 1),
+            at_most(0, 7, 2),
+            at_most(0, 7, 0),
+            at_most(0, 7, 1),
+            and(5, 6),
+            at_least(1, 7, 2),
+            at_least(1, 7, 0),
+            at_least(1, 7, 1),
+            or(9, 10),
+            and(9, 10),
+            at_least(1, 7, 3),
+            // Entries 14 to 18.
+            TRUE,
+            at_least(2, 7, 14),
+            not(0),
+            at_least(1, 7, 16),
+            and(9, 17),
+        ],
+    );
     let mut tally = before.subject(8000);
     tally = marks(tally, d, pair(4, 7), 1, EQUAL);
     tally = marks(tally, d, pair(8, 11), 1, EQUAL);

@@ -18,10 +18,7 @@ use vectors::tally::Tally;
 
 // The mark sheet's example: at least 2 and at least 3 by relation 7 of fact 1.
 pub fn example(before: Tally) -> Tally {
-    let d = Description::none()
-        .entry(fact(1))
-        .entry(at_least(2, 7, 0))
-        .entry(at_least(3, 7, 0));
+    let d = Description::of(&[fact(1), at_least(2, 7, 0), at_least(3, 7, 0)]);
     let mut tally = before.subject(1000);
     tally = marks(tally, d, pair(1, 2), 1, NARROWER);
     tally = marks(tally, d, pair(1, 1), 1, EQUAL);
@@ -32,12 +29,7 @@ pub fn example(before: Tally) -> Tally {
 
 // p, q, p and q, p or q, not p.
 pub fn facts(before: Tally) -> Tally {
-    let d = Description::none()
-        .entry(fact(1))
-        .entry(fact(2))
-        .entry(and(0, 1))
-        .entry(or(0, 1))
-        .entry(not(0));
+    let d = Description::of(&[fact(1), fact(2), and(0, 1), or(0, 1), not(0)]);
     let mut tally = before.subject(2000);
     tally = marks(tally, d, pair(0, 1), 0, CROSSING);
     tally = marks(tally, d, pair(0, 2), 0, NARROWER);
@@ -49,13 +41,7 @@ pub fn facts(before: Tally) -> Tally {
 
 // An impossible answer beside a possible model is narrower; beside an impossible one it is equal.
 pub fn impossible(before: Tally) -> Tally {
-    let d = Description::none()
-        .entry(TRUE)
-        .entry(FALSE)
-        .entry(fact(1))
-        .entry(not(2))
-        .entry(and(2, 3))
-        .entry(or(2, 3));
+    let d = Description::of(&[TRUE, FALSE, fact(1), not(2), and(2, 3), or(2, 3)]);
     let mut tally = before.subject(3000);
     tally = marks(tally, d, pair(2, 1), 0, NARROWER);
     tally = marks(tally, d, pair(2, 4), 0, NARROWER);
@@ -67,17 +53,20 @@ pub fn impossible(before: Tally) -> Tally {
 
 // At least 0 says nothing, at most 255 something, not at most 255 is at least 256.
 pub fn grades(before: Tally) -> Tally {
-    let mut d = Description::none()
-        .entry(TRUE)
-        .entry(at_least(0, 7, 0))
-        .entry(at_most(255, 7, 0))
-        .entry(not(2))
-        .entry(at_least(255, 7, 0));
-    d = d.entry(at_most(254, 7, 0))
-        .entry(not(5))
-        .entry(at_most(0, 7, 0))
-        .entry(not(7))
-        .entry(at_least(1, 7, 0));
+    let d = Description::of(
+        &[
+            TRUE,
+            at_least(0, 7, 0),
+            at_most(255, 7, 0),
+            not(2),
+            at_least(255, 7, 0),
+            at_most(254, 7, 0),
+            not(5),
+            at_most(0, 7, 0),
+            not(7),
+            at_least(1, 7, 0),
+        ],
+    );
     let mut tally = before.subject(4000);
     tally = marks(tally, d, pair(0, 1), 1, EQUAL);
     tally = marks(tally, d, pair(0, 2), 1, NARROWER);
@@ -92,16 +81,19 @@ pub fn grades(before: Tally) -> Tally {
 
 // The same count by two relations, and of two facts.
 pub fn relations(before: Tally) -> Tally {
-    let mut d = Description::none()
-        .entry(fact(1))
-        .entry(fact(2))
-        .entry(at_least(1, 7, 0))
-        .entry(at_least(1, 8, 0))
-        .entry(at_least(1, 7, 1));
-    d = d.entry(at_most(0, 7, 0))
-        .entry(at_most(0, 8, 0))
-        .entry(and(2, 3))
-        .entry(or(2, 3));
+    let d = Description::of(
+        &[
+            fact(1),
+            fact(2),
+            at_least(1, 7, 0),
+            at_least(1, 8, 0),
+            at_least(1, 7, 1),
+            at_most(0, 7, 0),
+            at_most(0, 8, 0),
+            and(2, 3),
+            or(2, 3),
+        ],
+    );
     let mut tally = before.subject(5000);
     tally = marks(tally, d, pair(2, 3), 1, CROSSING);
     tally = marks(tally, d, pair(2, 4), 1, CROSSING);

@@ -42,6 +42,17 @@ impl Description {
         }
     }
 
+    // These entries, from the first on.
+    pub fn of(entries: &[u32]) -> Description {
+        let mut d = Description::none();
+        let mut i = 0;
+        while i < entries.len() {
+            d = d.entry(entries[i]);
+            i += 1;
+        }
+        d
+    }
+
     // The same bytes, so many of them.
     pub fn cut(self, bytes: usize) -> Description {
         let table = self.table;
