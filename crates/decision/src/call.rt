@@ -40,7 +40,7 @@ pub fn pair_depth(table: &[u8], a: usize, b: usize) -> usize
 pub fn checked(table: &[u8], a: usize, b: usize, words: usize) -> Verdict
     ensures { λ r. ⌜ r ≡ pairVerdict (now (table .entry)) a b words ⌝ }
 {
-    let of_table = table::check::check(table);
+    let of_table = table::checking::check(table);
     let Verdict::Accepted = of_table else {
         return of_table;
     };

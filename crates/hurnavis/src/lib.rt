@@ -14,7 +14,7 @@ use mark::Marking;
 pub fn check_table(table: &[u8]) -> Verdict
     ensures { λ r. ⌜ r ≡ tableVerdict (now (table .entry)) ⌝ }
 {
-    table::check::check(table)
+    table::checking::check(table)
 }
 
 // Writes the truth table of a packed structure (document 01: the board), one word for each entry of the table: bit w is 1

@@ -1,4 +1,4 @@
 // The packed structure of document 01: its records, its check, and what an accepted one states.
-pub mod check;
+pub mod checking;
 pub mod read;
 pub mod record;

@@ -43,11 +43,11 @@ fn fill(table: &[u8], packed: &[u8], words: &mut [u64])
 fn checked(table: &[u8], packed: &[u8], words: usize) -> Verdict
     ensures { λ r. ⌜ r ≡ boardVerdict (now (table .entry)) (now (packed .entry)) words ⌝ }
 {
-    let of_table = table::check::check(table);
+    let of_table = table::checking::check(table);
     let Verdict::Accepted = of_table else {
         return of_table;
     };
-    let of_structure = structure::check::check(packed);
+    let of_structure = structure::checking::check(packed);
     let Verdict::Accepted = of_structure else {
         return of_structure;
     };

@@ -8,8 +8,8 @@ use borrow.Author.Needs.{needs}
 use Rattle.table.specs.Entry.{entryOf}
 use Rattle.table.specs.Check.{hasStray, refersUp}
 use Rattle.table.proofs.Fields.{strayBits, stray-found, stray-none}
-use Rattle.table.proofs.check.check_fields.Statement.{statement}
-use Rattle.table.proofs.check.check_fields.Tie as tie
+use Rattle.table.proofs.checking.check_fields.Statement.{statement}
+use Rattle.table.proofs.checking.check_fields.Tie as tie
 
 used-bits-requires : tie.Need-used-bits-requires
 used-bits-requires c κs =

@@ -6,8 +6,8 @@ use native.Mathlib.Omega.{arith}
 use borrow.Author.Needs.{needs}
 use borrow.Author.Tests.{le-leb, lt-leb}
 use Rattle.table.specs.Entry.{entryOf}
-use Rattle.table.proofs.check.check_entry.Statement.{statement}
-use Rattle.table.proofs.check.check_entry.Tie as tie
+use Rattle.table.proofs.checking.check_entry.Statement.{statement}
+use Rattle.table.proofs.checking.check_entry.Tie as tie
 
 known : (c : tie.Joined1) → entryOf (c .before .before .args .word) .kind < 8
 known c =

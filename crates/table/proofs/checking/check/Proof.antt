@@ -5,8 +5,8 @@ use lib.ListN.{length}
 use borrow.Author.Needs.{needs}
 use borrow.Author.Tests.{eq-eqb, ne-eqb, lt-ltb, le-ltb}
 use Rattle.table.specs.Check.{lengthFaulty, tableVerdict}
-use Rattle.table.proofs.check.check.Statement.{statement}
-use Rattle.table.proofs.check.check.Tie as tie
+use Rattle.table.proofs.checking.check.Statement.{statement}
+use Rattle.table.proofs.checking.check.Tie as tie
 
 returns : tie.Need-returns
 unfolding tableVerdict

@@ -2,8 +2,8 @@
 use borrow.Author.Needs.{needs}
 use borrow.Author.Tests.{eq-eqb, ne-eqb, lt-ltb, le-ltb}
 use Rattle.structure.specs.Check.{structureVerdict}
-use Rattle.structure.proofs.check.check.Statement.{statement}
-use Rattle.structure.proofs.check.check.Tie as tie
+use Rattle.structure.proofs.checking.check.Statement.{statement}
+use Rattle.structure.proofs.checking.check.Tie as tie
 
 returns : tie.Need-returns
 unfolding structureVerdict

@@ -1,4 +1,4 @@
--- `check_records` meets its contract. The invariant: the records passed are accepted.
+-- `check_entries` meets its contract. The invariant: the entries passed are accepted.
 use mathlib.Core.Path.{_≡_, refl, sym, _∙_}
 use Prim.Native.Nat.{_-_, _≤_}
 use native.Mathlib.Numerals.{add-one}
@@ -7,28 +7,23 @@ use borrow.Author.Needs.{needs}
 use Rattle.faults.specs.declared.Verdict.the-variants.{Accepted}
 use Rattle.faults.specs.Verdict.{each}
 use Rattle.faults.proofs.Each.{each-more, each-refused}
-use Rattle.structure.specs.Record.{recordAt, worldsOf}
-use Rattle.structure.specs.Read.{stated}
-use Rattle.structure.specs.Check.{recordVerdict, recordsVerdict}
-use Rattle.structure.proofs.check.check_records.Statement.{statement}
-use Rattle.structure.proofs.check.check_records.Tie as tie
+use Rattle.table.specs.Entry.{entryAt}
+use Rattle.table.specs.Check.{entryVerdict, entriesVerdict}
+use Rattle.table.proofs.checking.check_entries.Statement.{statement}
+use Rattle.table.proofs.checking.check_entries.Tie as tie
 
 abbrev Inv-loop : tie.InvT-loop
-Inv-loop bytes n worlds i₀ i = (i ≤ n) × (recordsVerdict (recordAt bytes) i ≡ Accepted)
+Inv-loop table n i₀ i = (i ≤ n) × (entriesVerdict (entryAt table) i ≡ Accepted)
 
 abbrev μ-loop : tie.MeasureT-loop
-μ-loop bytes n worlds i₀ i = n - i
+μ-loop table n i₀ i = n - i
 
 loop-holds : tie.Need-loop-holds Inv-loop μ-loop
 unfolding each
 loop-holds c = (search needs, refl)
 
--- what the call says of record i
-here : (c : tie.After-check-record Inv-loop μ-loop)
-    → let row = recordAt (c .before .before .before .before .before .before .args .bytes .now) in
-    let i = c .before .before .before .loop .i in
-    c .check-record .result ≡ recordVerdict (row i) i (worldsOf row)
-unfolding stated
+-- what the call says of entry i
+here : (c : tie.After-check-entry Inv-loop μ-loop) → c .check-entry .result ≡ entryVerdict (entryAt (c .before .before .before .before .before .args .table .now) (c .before .before .before .loop .i)) (c .before .before .before .loop .i)
 here c = cc
 
 returns : tie.Need-returns Inv-loop μ-loop
@@ -40,20 +35,19 @@ returns c =
 loop-again : tie.Need-loop-again Inv-loop μ-loop
 loop-again c =
     let l = c .before .before .before .before .before .loop in
-    (search needs, rw (add-one (l .i)) (each-more _ (l .i) (l .inv .1) (sym (here (c .before .before)) ∙ c .enum-told .given .1)))
+    (search needs, rw add-one (each-more _ (l .i) (l .inv .1) (sym (here (c .before .before)) ∙ c .enum-told .given .1)))
 
 returns-2 : tie.Need-returns-2 Inv-loop μ-loop
 returns-2 c =
-    let e : c .before .loop .i ≡ c .before .before .before .before .args .n = omega arith in
+    let e : c .before .loop .i ≡ c .before .before .before .args .n = omega arith in
     sym (rw e at (c .before .loop .inv .1))
 
-pub check-records-spec : {M : Type 1} → statement M
-check-records-spec =
+pub check-entries-spec : {M : Type 1} → statement M
+check-entries-spec =
     tie.close
     (tie.spec
     Inv-loop
     μ-loop
-    (λ c κs. search needs)
     loop-holds
     (λ c κs. search needs)
     (λ c κs. search needs)

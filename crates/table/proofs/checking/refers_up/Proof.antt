@@ -5,8 +5,8 @@ use lib.Dec.{leb}
 use borrow.Author.Needs.{needs}
 use Rattle.table.specs.Check.{usesOf}
 use Rattle.table.proofs.Fields.{first-bit, second-bit}
-use Rattle.table.proofs.check.refers_up.Statement.{statement}
-use Rattle.table.proofs.check.refers_up.Tie as tie
+use Rattle.table.proofs.checking.refers_up.Statement.{statement}
+use Rattle.table.proofs.checking.refers_up.Tie as tie
 
 returns : tie.Need-returns
 returns c =

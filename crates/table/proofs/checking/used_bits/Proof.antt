@@ -10,8 +10,8 @@ use Rattle.semantics.specs.Structure.{count}
 use Rattle.semantics.proofs.Count.{count-all}
 use Rattle.table.specs.Check.{usesOf}
 use Rattle.table.specs.Mask.{usedBits}
-use Rattle.table.proofs.check.used_bits.Statement.{statement}
-use Rattle.table.proofs.check.used_bits.Tie as tie
+use Rattle.table.proofs.checking.used_bits.Statement.{statement}
+use Rattle.table.proofs.checking.used_bits.Tie as tie
 
 rows : List ℕ
 rows = 0xf000_0000 ∷ 0xf000_0000 ∷ 0xfff0_0000 ∷ 0xf00f_c000 ∷ 0xf00f_ff00 ∷ 0xf00f_ff00 ∷ 0xffff_c0ff ∷ 0xffff_c0ff ∷ []

@@ -7,8 +7,8 @@ use lib.Bits.{bitOr, or-zero-l, or-add-and, and-le-r}
 use lib.Dec.{eqb, eqb·suc-zero}
 use borrow.Author.Tests.{ne-eqb, le-leb}
 use Rattle.structure.specs.Check.{misplaced}
-use Rattle.structure.proofs.check.is_faulty.Statement.{statement}
-use Rattle.structure.proofs.check.is_faulty.Tie as tie
+use Rattle.structure.proofs.checking.is_faulty.Statement.{statement}
+use Rattle.structure.proofs.checking.is_faulty.Tie as tie
 
 -- one of two tests holds, and the other not, where they differ
 one-only : (a b : Bool) → (a && not b) || (not a && b) ≡ not (Bool·beq a b)

@@ -6,8 +6,8 @@ use Prim.Native.Nat.{ℕ, zero, suc}
 use lib.ListN.{getD}
 use borrow.Author.Needs.{needs}
 use borrow.Author.Tests.{le-leb, lt-leb}
-use Rattle.structure.proofs.check.is_outside.Statement.{statement}
-use Rattle.structure.proofs.check.is_outside.Tie as tie
+use Rattle.structure.proofs.checking.is_outside.Statement.{statement}
+use Rattle.structure.proofs.checking.is_outside.Tie as tie
 
 -- a record that is no fact and no link names no world
 no-world : (a b : Bool) (k : ℕ) → (k ≡ 1 → ⊥) → (k ≡ 2 → ⊥) → false ≡ getD (false ∷ a ∷ b ∷ []) k false

@@ -1,8 +1,8 @@
 -- `check_record` meets its contract: its two tests are those of the definition, in its order.
 use mathlib.Core.Path.{sym, _∙_}
 use borrow.Author.Needs.{needs}
-use Rattle.structure.proofs.check.check_record.Statement.{statement}
-use Rattle.structure.proofs.check.check_record.Tie as tie
+use Rattle.structure.proofs.checking.check_record.Statement.{statement}
+use Rattle.structure.proofs.checking.check_record.Tie as tie
 
 returns : tie.Need-returns
 returns c = rw (sym (c .before .is-faulty .ensures) ∙ c .if1 .taken)

@@ -13,8 +13,8 @@ use Rattle.faults.proofs.Each.{each-more, each-refused}
 use Rattle.table.specs.Entry.{entryAt}
 use Rattle.table.specs.Formulas.{depthAt}
 use Rattle.table.specs.Check.{depthVerdict}
-use Rattle.table.proofs.check.check_depths.Statement.{statement}
-use Rattle.table.proofs.check.check_depths.Tie as tie
+use Rattle.table.proofs.checking.check_depths.Statement.{statement}
+use Rattle.table.proofs.checking.check_depths.Tie as tie
 
 abbrev Inv-loop : tie.InvT-loop
 Inv-loop table n depths i₀ i = (i ≤ n) × (depthVerdict (entryAt table) i ≡ Accepted)
