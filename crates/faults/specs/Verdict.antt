@@ -19,6 +19,11 @@ numberOf World = 8
 numberOf EntryNumber = 9
 numberOf Space = 10
 
+-- the number of a verdict: that of its fault, and 0, which is no fault's, where there is none
+abbrev pub refusal : Verdict → ℕ
+refusal Accepted = 0
+refusal (Refused f) = numberOf f
+
 -- the fault where it is present
 abbrev pub refuseIf : Bool → Fault → Verdict
 refuseIf true f = Refused f

@@ -1,7 +1,7 @@
 // Faults: which written limit an input breaks, and the number that a refused call returns for it.
 // Document 01, "Numbers by who can cause them".
 ghost use mathlib.Core.Path.{_≡_};
-ghost use Rattle.faults.specs.Verdict.{numberOf};
+ghost use Rattle.faults.specs.Verdict.{numberOf, refusal};
 
 // One case for each number of document 01, in its order.
 pub enum Fault {
@@ -39,6 +39,18 @@ impl Fault {
             Fault::World => 8,
             Fault::EntryNumber => 9,
             Fault::Space => 10,
+        }
+    }
+}
+
+impl Verdict {
+    // The number of the fault, 0 where there is none.
+    pub fn number(self) -> u8
+        ensures { λ r. ⌜ r ≡ refusal self ⌝ }
+    {
+        match self {
+            Verdict::Accepted => 0,
+            Verdict::Refused(fault) => fault.number(),
         }
     }
 }

@@ -1,0 +1,59 @@
+-- Faults are told apart by their numbers, and none has the number 0.
+use mathlib.Core.Path.{_≡_, refl, sym, ap, _∙_}
+use mathlib.Core.Logic.{_↔_}
+use mathlib.Core.List.{[], _∷_}
+use Prim.Native.Nat.{ℕ, _<_}
+use native.Mathlib.Omega.{arith}
+use lib.ListN.{getD}
+use Rattle.faults.specs.declared.Fault.{Fault}
+use Rattle.faults.specs.declared.Fault.the-variants.{TableLength, Kind, UnusedField, Reference, Depth, StructureLength, Record, World, EntryNumber, Space}
+use Rattle.faults.specs.declared.Verdict.{Verdict}
+use Rattle.faults.specs.declared.Verdict.the-variants.{Accepted, Refused}
+use Rattle.faults.specs.Verdict.{numberOf, refusal}
+
+faultOf : ℕ → Fault
+faultOf n =
+    getD (Space ∷ TableLength ∷ Kind ∷ UnusedField ∷ Reference ∷ Depth ∷ StructureLength ∷ Record ∷ World ∷ EntryNumber ∷ []) n Space
+
+fault-of : (f : Fault) → faultOf (numberOf f) ≡ f
+unfolding faultOf
+fault-of TableLength = refl
+fault-of Kind = refl
+fault-of UnusedField = refl
+fault-of Reference = refl
+fault-of Depth = refl
+fault-of StructureLength = refl
+fault-of Record = refl
+fault-of World = refl
+fault-of EntryNumber = refl
+fault-of Space = refl
+
+same-fault : (f g : Fault) → numberOf f ≡ numberOf g → f ≡ g
+same-fault f g e = sym (fault-of f) ∙ ap faultOf e ∙ fault-of g
+
+number-pos : (f : Fault) → 0 < numberOf f
+number-pos TableLength = omega arith
+number-pos Kind = omega arith
+number-pos UnusedField = omega arith
+number-pos Reference = omega arith
+number-pos Depth = omega arith
+number-pos StructureLength = omega arith
+number-pos Record = omega arith
+number-pos World = omega arith
+number-pos EntryNumber = omega arith
+number-pos Space = omega arith
+
+no-fault : (f : Fault) → numberOf f ≡ 0 → ⊥
+no-fault f e = absurd (omega (arith, number-pos f, e))
+
+pub accepted-refused : {f : Fault} → Accepted ≡ Refused f → ⊥
+accepted-refused {f} e = no-fault f (sym (ap refusal e))
+
+-- the number of a verdict is a fault's exactly when it refuses for that fault, and 0 exactly when it accepts
+pub refused-number : (v : Verdict) (f : Fault) → (refusal v ≡ numberOf f) ↔ (v ≡ Refused f)
+refused-number Accepted f = (λ e. absurd (no-fault f (sym e)), λ e. absurd (accepted-refused e))
+refused-number (Refused g) f = (λ e. ap Refused (same-fault g f e), λ e. ap refusal e)
+
+pub accepted-number : (v : Verdict) → (refusal v ≡ 0) ↔ (v ≡ Accepted)
+accepted-number Accepted = (λ e. refl, λ e. refl)
+accepted-number (Refused g) = (λ e. absurd (no-fault g e), λ e. ap refusal e)
