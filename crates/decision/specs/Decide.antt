@@ -7,7 +7,7 @@ use lib.ListN.{length}
 use Rattle.faults.specs.declared.Fault.the-variants.{EntryNumber, Space}
 use Rattle.faults.specs.declared.Verdict.{Verdict}
 use Rattle.faults.specs.declared.Verdict.the-variants.{Accepted, Refused}
-use Rattle.faults.specs.Verdict.{refuseIf, andThen}
+use Rattle.faults.specs.Verdict.{numberOf as faultNumber, refuseIf, andThen}
 use Rattle.semantics.specs.Truth.{Satisfiable}
 use Rattle.table.specs.Entry.{entryAt, size}
 use Rattle.table.specs.Formulas.{formulaAt, depthAt}
@@ -15,6 +15,18 @@ use Rattle.table.specs.Space.{tableWork}
 use Rattle.table.specs.Check.{tableVerdict}
 use Rattle.decision.specs.declared.Decision.{Decision}
 use Rattle.decision.specs.Call.{Cleared}
+
+-- document 01's number of each answer; of a refusal, that of its fault
+abbrev pub numberOf : Decision → ℕ
+numberOf Decision.Possible = 1
+numberOf Decision.Impossible = 0
+numberOf (Decision.Refused f) = faultNumber f
+
+-- the number that a call is refused with, 0 where it answers
+abbrev pub refusal : Decision → ℕ
+refusal Decision.Possible = 0
+refusal Decision.Impossible = 0
+refusal (Decision.Refused f) = faultNumber f
 
 -- document 01's W for the decision of entry e
 abbrev pub entryWork : List ℕ → ℕ → ℕ

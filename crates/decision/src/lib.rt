@@ -10,7 +10,7 @@ ghost use Rattle.table.specs.Entry.{entryAt, size};
 ghost use Rattle.table.specs.Formulas.{formulaAt, depthAt};
 ghost use Rattle.table.specs.Space.{tableWork};
 ghost use Rattle.decision.specs.Call.{Cleared};
-ghost use Rattle.decision.specs.Decide.{entryWork, DecisionIs};
+ghost use Rattle.decision.specs.Decide.{numberOf, entryWork, DecisionIs};
 
 pub mod ask;
 pub mod call;
@@ -28,6 +28,19 @@ pub enum Decision {
     Possible,
     Impossible,
     Refused(Fault),
+}
+
+impl Decision {
+    // The number that document 01 lists for the answer, or for the fault of a refusal.
+    pub fn number(self) -> u8
+        ensures { λ r. ⌜ r ≡ numberOf self ⌝ }
+    {
+        match self {
+            Decision::Possible => 1,
+            Decision::Impossible => 0,
+            Decision::Refused(fault) => fault.number(),
+        }
+    }
 }
 
 // Whether entry e, of this depth, is possible, worked in the words, which are W or more.

@@ -1,12 +1,15 @@
 -- Exactly one mark fits a model and an answer: two that fit are the same, and it cannot be that none does. So "exactly when" holds in both
 -- directions of what a mark says.
-use mathlib.Core.Path.{_≡_, refl, sym, ap₂, _∙_}
+use mathlib.Core.Path.{_≡_, refl, sym, ap, ap₂, _∙_}
 use mathlib.Core.Logic.{_↔_}
 use mathlib.Core.Bool.{Bool, true, false, cond, true≢false}
+use mathlib.Core.List.{[], _∷_}
+use Prim.Native.Nat.{ℕ}
+use lib.ListN.{getD}
 use Rattle.semantics.specs.Formula.{Formula}
 use Rattle.tableau.specs.Wants.{Answers}
 use Rattle.mark.specs.declared.Mark.{Mark}
-use Rattle.mark.specs.Mark.{Same, Inside, Beyond, MarkIs}
+use Rattle.mark.specs.Mark.{Same, Inside, Beyond, MarkIs, numberOf}
 
 true-unless : (b : Bool) → (b ≡ false → ⊥) → b ≡ true
 true-unless true h = refl
@@ -90,3 +93,17 @@ module _ (model answer : Formula) where
   -- a mark that fits comes out exactly when it is the one that fits
   pub mark-exactly : (x : Mark) → MarkIs model answer x → (y : Mark) → MarkIs model answer y ↔ (y ≡ x)
   mark-exactly x fits y = (λ also. mark-unique y x also fits, λ same. rw same fits)
+
+-- marks are told apart by their numbers
+markOf : ℕ → Mark
+markOf n = getD (Mark.Equal ∷ Mark.Narrower ∷ Mark.Wider ∷ []) n Mark.Crossing
+
+mark-of : (x : Mark) → markOf (numberOf x) ≡ x
+unfolding markOf
+mark-of Mark.Equal = refl
+mark-of Mark.Narrower = refl
+mark-of Mark.Wider = refl
+mark-of Mark.Crossing = refl
+
+pub same-mark : (x y : Mark) → numberOf x ≡ numberOf y → x ≡ y
+same-mark x y e = sym (mark-of x) ∙ ap markOf e ∙ mark-of y

@@ -6,6 +6,7 @@ use mathlib.Core.List.{List}
 use Prim.Native.Nat.{ℕ, _<_}
 use lib.ListN.{length}
 use Rattle.faults.specs.declared.Verdict.the-variants.{Accepted, Refused}
+use Rattle.faults.specs.Verdict.{numberOf as faultNumber}
 use Rattle.semantics.specs.Formula.{Formula}
 use Rattle.semantics.specs.Structure.{Structure}
 use Rattle.semantics.specs.Truth.{truth}
@@ -44,6 +45,16 @@ numberOf Mark.Equal = 0
 numberOf Mark.Narrower = 1
 numberOf Mark.Wider = 2
 numberOf Mark.Crossing = 3
+
+-- the number that a call returns: of the mark, or of the fault
+abbrev pub markingNumber : Marking → ℕ
+markingNumber (Marking.Marked mark) = numberOf mark
+markingNumber (Marking.Refused f) = faultNumber f
+
+-- the number that a call is refused with, 0 where it answers
+abbrev pub refusal : Marking → ℕ
+refusal (Marking.Marked mark) = 0
+refusal (Marking.Refused f) = faultNumber f
 
 -- what a mark call answers for a model's and an answer's entry, and what the lent words are then
 abbrev pub MarkingIs : List ℕ → (model answer : ℕ) → (before after : List ℕ) → Marking → Type 0

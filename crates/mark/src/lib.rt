@@ -10,7 +10,7 @@ ghost use Rattle.table.specs.Entry.{entryAt, size};
 ghost use Rattle.table.specs.Formulas.{formulaAt};
 ghost use Rattle.decision.specs.Call.{pairWork, Cleared};
 ghost use Rattle.mark.specs.Pair.{PairAsked};
-ghost use Rattle.mark.specs.Mark.{Beyond, MarkIs, numberOf, MarkingIs};
+ghost use Rattle.mark.specs.Mark.{Beyond, MarkIs, numberOf, markingNumber, MarkingIs};
 use decision::ask::ask;
 use decision::call::checked;
 use decision::call::clear;
@@ -43,6 +43,18 @@ impl Mark {
             Mark::Narrower => 1,
             Mark::Wider => 2,
             Mark::Crossing => 3,
+        }
+    }
+}
+
+impl Marking {
+    // The number that the call returns by document 01: that of the mark, or of the fault.
+    pub fn number(self) -> u8
+        ensures { λ r. ⌜ r ≡ markingNumber self ⌝ }
+    {
+        match self {
+            Marking::Marked(mark) => mark.number(),
+            Marking::Refused(fault) => fault.number(),
         }
     }
 }
