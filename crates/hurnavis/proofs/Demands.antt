@@ -1,70 +1,111 @@
--- The demands of the mission, from the promises of the calls: a call is refused with a fault exactly when that is its first one (demand 1), and
--- each answer comes out exactly when what it says is so (demand 3).
-use mathlib.Core.Path.{_≡_, refl, sym, _∙_}
-use mathlib.Core.Logic.{_↔_}
+-- The demands of the mission, from the promises of the calls. Each theorem speaks of any answer that keeps the promise of its call.
+use mathlib.Core.Path.{_≡_, refl, sym, ap, _∙_}
+use mathlib.Core.Logic.{_↔_, by-cases}
+use mathlib.Core.Bool.{true, true≢false}
 use mathlib.Core.List.{List}
-use Prim.Native.Nat.{ℕ}
+use Prim.Native.Nat.{ℕ, _<_}
+use native.Mathlib.Decide.{decLt}
 use native.Mathlib.Omega.{arith}
-use lib.ListN.{length}
+use lib.ListN.{length, getD}
+use Rattle.semantics.specs.Truth.{truth, Satisfiable}
+use Rattle.sets.specs.Word.{bitAt}
+use Rattle.sets.proofs.Words.{bit-word, bit-word-high}
 use Rattle.faults.specs.declared.Fault.{Fault}
+use Rattle.faults.specs.declared.Verdict.{Verdict}
 use Rattle.faults.specs.declared.Verdict.the-variants.{Accepted, Refused}
-use Rattle.semantics.specs.Truth.{Satisfiable}
-use Rattle.table.specs.Entry.{entryAt}
+use Rattle.faults.specs.Verdict.{numberOf, refusal}
+use Rattle.faults.proofs.Numbers.{accepted-refused, refused-number, accepted-number}
+use Rattle.table.specs.Entry.{entryAt, size}
 use Rattle.table.specs.Formulas.{formulaAt}
+use Rattle.table.specs.Check.{tableVerdict}
+use Rattle.structure.specs.Read.{structureOf}
+use Rattle.truth_table.specs.Board.{boardVerdict, Filled, BoardAfter}
 use Rattle.decision.specs.declared.Decision.{Decision}
 use Rattle.decision.specs.Call.{pairVerdict}
-use Rattle.decision.specs.Decide.{decideVerdict, DecisionIs}
+use Rattle.decision.specs.Decide.{numberOf as decided, refusal as decisionRefusal, decideVerdict, DecisionIs}
 use Rattle.mark.specs.declared.Mark.{Mark}
 use Rattle.mark.specs.declared.Marking.{Marking}
-use Rattle.mark.specs.Mark.{MarkIs, MarkingIs}
-use Rattle.mark.proofs.Exactly.{mark-unique}
+use Rattle.mark.specs.Mark.{MarkIs, numberOf as markNumber, markingNumber, refusal as markRefusal, MarkingIs}
+use Rattle.mark.proofs.Exactly.{mark-unique, same-mark}
 
--- answers that differ
-accepted-refused : {f : Fault} → Accepted ≡ Refused f → ⊥
-accepted-refused e = let z : _≡_ {A = ℕ} 0 1 = cc in absurd (omega arith)
+-- Demand 1. A call is refused with a number; 0 says that it answers.
 
-possible-impossible : Decision.Possible ≡ Decision.Impossible → ⊥
-possible-impossible e = let z : _≡_ {A = ℕ} 0 1 = cc in absurd (omega arith)
+-- the number is a fault's exactly when that is the first fault, and 0 exactly when there is none
+pub record Refuses (verdict : Verdict) (number : ℕ) : Type 0 where
+  pub refused : (f : Fault) → (number ≡ numberOf f) ↔ (verdict ≡ Refused f)
+  pub answered : (number ≡ 0) ↔ (verdict ≡ Accepted)
 
-possible-refused : {f : Fault} → Decision.Possible ≡ Decision.Refused f → ⊥
-possible-refused e = let z : _≡_ {A = ℕ} 0 1 = cc in absurd (omega arith)
+-- the lent words of a call that has a fault are as before
+abbrev pub Keeps : Verdict → (before after : List ℕ) → Type 0
+Keeps verdict before after = (f : Fault) → verdict ≡ Refused f → after ≡ before
 
-impossible-refused : {f : Fault} → Decision.Impossible ≡ Decision.Refused f → ⊥
-impossible-refused e = let z : _≡_ {A = ℕ} 0 1 = cc in absurd (omega arith)
+first-fault : (v : Verdict) → Refuses v (refusal v)
+first-fault v = record { refused = refused-number v; answered = accepted-number v }
 
-marked-refused : {m : Mark} {f : Fault} → Marking.Marked m ≡ Marking.Refused f → ⊥
-marked-refused e = let z : _≡_ {A = ℕ} 0 1 = cc in absurd (omega arith)
+pub check-refused : (bytes : List ℕ) (r : Verdict) → r ≡ tableVerdict bytes → Refuses (tableVerdict bytes) (refusal r)
+check-refused bytes r is = rw is (first-fault (tableVerdict bytes))
 
+module _ (bytes packed before after : List ℕ) (r : Verdict) (is : r ≡ boardVerdict bytes packed (length before)) (done : BoardAfter bytes packed before r after) where
+  pub board-refused : Refuses (boardVerdict bytes packed (length before)) (refusal r)
+  board-refused = rw is (first-fault (boardVerdict bytes packed (length before)))
+
+  pub board-keeps : Keeps (boardVerdict bytes packed (length before)) before after
+  board-keeps f found = rw (is ∙ found) at done
+
+  -- Demand 2. For a call without a fault: bit w of word i is 1 exactly when w is a world of the structure and entry i is true there.
+  pub board-true : boardVerdict bytes packed (length before) ≡ Accepted → (i : ℕ) → i < size bytes → (w : ℕ)
+      → (bitAt (getD after i 0) w ≡ true) ↔ ((w < structureOf packed .worlds) × (truth (structureOf packed) (formulaAt (entryAt bytes) i) w ≡ true))
+  board-true ok i inside w =
+      let filled : Filled (structureOf packed) (entryAt bytes) (size bytes) before after = rw (is ∙ ok) at done in
+      let word-is = ap (λ (a : ℕ). bitAt a w) (filled .table i inside) in
+      let test = truth (structureOf packed) (formulaAt (entryAt bytes) i) in
+      by-cases (decLt w (structureOf packed .worlds))
+      (λ (l : w < structureOf packed .worlds).
+      let same = word-is ∙ bit-word test l in
+      (λ set. (l, sym same ∙ set), λ holds. same ∙ holds .1))
+      (λ (g : ¬ (w < structureOf packed .worlds)).
+      let unset = word-is ∙ bit-word-high test (omega arith) in
+      (λ set. absurd (true≢false (sym set ∙ unset)), λ holds. absurd (g (holds .0))))
+
+-- Demands 1 and 3, of the decision.
 module _ (bytes : List ℕ) (e : ℕ) (before after : List ℕ) where
-  -- demand 1: refused with a fault exactly when it is the first one
-  pub decision-refused : (r : Decision) → DecisionIs bytes e before after r → (f : Fault) → (r ≡ Decision.Refused f) ↔ (decideVerdict bytes e (length before) ≡ Refused f)
-  decision-refused Decision.Possible is f = (λ same. absurd (possible-refused same), λ found. absurd (accepted-refused (sym (is .0) ∙ found)))
-  decision-refused Decision.Impossible is f = (λ same. absurd (impossible-refused same), λ found. absurd (accepted-refused (sym (is .0) ∙ found)))
-  decision-refused (Decision.Refused g) is f = (λ same. let told = is .0 in cc, λ found. let told = is .0 in cc)
+  pub decision-refused : (r : Decision) → DecisionIs bytes e before after r → Refuses (decideVerdict bytes e (length before)) (decisionRefusal r)
+  decision-refused Decision.Possible is = rw (is .0) (first-fault Accepted)
+  decision-refused Decision.Impossible is = rw (is .0) (first-fault Accepted)
+  decision-refused (Decision.Refused g) is = rw (is .0) (first-fault (Refused g))
 
-  -- demand 3: a call without a fault answers possible exactly when some finite structure has a world where the entry is true
+  pub decision-keeps : (r : Decision) → DecisionIs bytes e before after r → Keeps (decideVerdict bytes e (length before)) before after
+  decision-keeps Decision.Possible is f found = absurd (accepted-refused (sym (is .0) ∙ found))
+  decision-keeps Decision.Impossible is f found = absurd (accepted-refused (sym (is .0) ∙ found))
+  decision-keeps (Decision.Refused g) is f found = is .1
+
+  -- a call without a fault answers 1, possible, exactly when some finite structure has a world where the entry is true
   pub decision-possible : (r : Decision) → DecisionIs bytes e before after r → decideVerdict bytes e (length before) ≡ Accepted
-      → (r ≡ Decision.Possible) ↔ Satisfiable (formulaAt (entryAt bytes) e)
+      → (decided r ≡ 1) ↔ Satisfiable (formulaAt (entryAt bytes) e)
   decision-possible Decision.Possible is ok = (λ same. is .1, λ sat. refl)
-  decision-possible Decision.Impossible is ok = (λ same. absurd (possible-impossible (sym same)), λ sat. absurd (is .1 sat))
-  decision-possible (Decision.Refused g) is ok = (λ same. absurd (possible-refused (sym same)), λ sat. absurd (accepted-refused (sym ok ∙ is .0)))
+  decision-possible Decision.Impossible is ok = (λ same. absurd (omega (arith, same)), λ sat. absurd (is .1 sat))
+  decision-possible (Decision.Refused g) is ok = absurd (accepted-refused (sym ok ∙ is .0))
 
-  -- and impossible exactly when none has
+  -- and 0, impossible, exactly when none has
   pub decision-impossible : (r : Decision) → DecisionIs bytes e before after r → decideVerdict bytes e (length before) ≡ Accepted
-      → (r ≡ Decision.Impossible) ↔ (Satisfiable (formulaAt (entryAt bytes) e) → ⊥)
-  decision-impossible Decision.Possible is ok = (λ same. absurd (possible-impossible same), λ none. absurd (none (is .1)))
+      → (decided r ≡ 0) ↔ (Satisfiable (formulaAt (entryAt bytes) e) → ⊥)
+  decision-impossible Decision.Possible is ok = (λ same. absurd (omega (arith, same)), λ none. absurd (none (is .1)))
   decision-impossible Decision.Impossible is ok = (λ same. is .1, λ none. refl)
-  decision-impossible (Decision.Refused g) is ok = (λ same. absurd (impossible-refused (sym same)), λ none. absurd (accepted-refused (sym ok ∙ is .0)))
+  decision-impossible (Decision.Refused g) is ok = absurd (accepted-refused (sym ok ∙ is .0))
 
+-- Demands 1 and 3, of the mark.
 module _ (bytes : List ℕ) (model answer : ℕ) (before after : List ℕ) where
-  -- demand 1, for the mark
-  pub mark-refused : (r : Marking) → MarkingIs bytes model answer before after r → (f : Fault) → (r ≡ Marking.Refused f) ↔ (pairVerdict bytes model answer (length before) ≡ Refused f)
-  mark-refused (Marking.Marked m) is f = (λ same. absurd (marked-refused same), λ found. absurd (accepted-refused (sym (is .0) ∙ found)))
-  mark-refused (Marking.Refused g) is f = (λ same. let told = is .0 in cc, λ found. let told = is .0 in cc)
+  pub mark-refused : (r : Marking) → MarkingIs bytes model answer before after r → Refuses (pairVerdict bytes model answer (length before)) (markRefusal r)
+  mark-refused (Marking.Marked m) is = rw (is .0) (first-fault Accepted)
+  mark-refused (Marking.Refused g) is = rw (is .0) (first-fault (Refused g))
 
-  -- demand 3: a call without a fault answers each mark exactly when it fits
+  pub mark-keeps : (r : Marking) → MarkingIs bytes model answer before after r → Keeps (pairVerdict bytes model answer (length before)) before after
+  mark-keeps (Marking.Marked m) is f found = absurd (accepted-refused (sym (is .0) ∙ found))
+  mark-keeps (Marking.Refused g) is f found = is .1
+
+  -- a call without a fault answers the number of a mark exactly when that mark fits
   pub mark-exactly : (r : Marking) → MarkingIs bytes model answer before after r → pairVerdict bytes model answer (length before) ≡ Accepted
-      → (m : Mark) → (r ≡ Marking.Marked m) ↔ MarkIs (formulaAt (entryAt bytes) model) (formulaAt (entryAt bytes) answer) m
+      → (m : Mark) → (markingNumber r ≡ markNumber m) ↔ MarkIs (formulaAt (entryAt bytes) model) (formulaAt (entryAt bytes) answer) m
   mark-exactly (Marking.Marked n) is ok m =
-      (λ same. let one : n ≡ m = cc in rw one at (is .1), λ fits. let one = mark-unique _ _ n m (is .1) fits in rw one refl)
-  mark-exactly (Marking.Refused g) is ok m = (λ same. absurd (marked-refused (sym same)), λ fits. absurd (accepted-refused (sym ok ∙ is .0)))
+      (λ same. let one = same-mark n m same in rw one at (is .1), λ fits. ap markNumber (mark-unique _ _ n m (is .1) fits))
+  mark-exactly (Marking.Refused g) is ok m = absurd (accepted-refused (sym ok ∙ is .0))
