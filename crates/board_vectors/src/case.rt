@@ -7,7 +7,6 @@ use crate::rows::before;
 use libc::STDOUT_FILENO;
 use vectors::entries::Room;
 use vectors::tally::Tally;
-use vectors::tally::number;
 
 // The first place where two lists of words differ, 66 where they do not.
 fn difference(a: Words, b: Words) -> usize {
@@ -38,7 +37,7 @@ fn on_structure(table: &[u8], structure: Packed, bytes: usize, words: &mut [u64]
         return 255;
     }
     let verdict = hurnavis::board(table, &structure[..bytes], words);
-    number(verdict)
+    verdict.number()
 }
 
 // The same on the first bytes of a table.

@@ -9,9 +9,9 @@ use Rattle.faults.specs.declared.Verdict.the-variants.{Accepted, Refused}
 use Rattle.faults.specs.Verdict.{numberOf}
 use Rattle.truth_table.specs.Board.{boardVerdict, BoardAfter}
 use Rattle.decision.specs.declared.Decision.{Decision}
-use Rattle.decision.specs.Decide.{DecisionIs}
+use Rattle.decision.specs.Decide.{DecisionIs, numberOf as decided}
 use Rattle.mark.specs.declared.Marking.{Marking}
-use Rattle.mark.specs.Mark.{MarkingIs, numberOf as markNumber}
+use Rattle.mark.specs.Mark.{MarkingIs, numberOf as marked}
 
 abbrev pub refusalNumber : Fault → ℕ
 refusalNumber f = 256 + numberOf f
@@ -22,12 +22,12 @@ verdictNumber Accepted = 0
 verdictNumber (Refused f) = refusalNumber f
 
 abbrev pub decisionNumber : Decision → ℕ
-decisionNumber Decision.Impossible = 0
-decisionNumber Decision.Possible = 1
+decisionNumber Decision.Impossible = decided Decision.Impossible
+decisionNumber Decision.Possible = decided Decision.Possible
 decisionNumber (Decision.Refused f) = refusalNumber f
 
 abbrev pub markingNumber : Marking → ℕ
-markingNumber (Marking.Marked mark) = markNumber mark
+markingNumber (Marking.Marked mark) = marked mark
 markingNumber (Marking.Refused f) = refusalNumber f
 
 -- the number of the answer that the board call gives; of the decision's; of the mark call's

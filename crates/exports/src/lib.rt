@@ -27,9 +27,9 @@ fn decision_number(decision: Decision) -> u32
     ensures { λ r. ⌜ r ≡ decisionNumber decision ⌝ }
 {
     match decision {
-        Decision::Impossible => 0,
-        Decision::Possible => 1,
         Decision::Refused(fault) => refusal(fault),
+        Decision::Possible => decision.number() as u32,
+        Decision::Impossible => decision.number() as u32,
     }
 }
 

@@ -13,7 +13,7 @@ fn answer(table: Room, bytes: usize) -> u8 {
         return 255;
     }
     let verdict = hurnavis::check_table(&table[..bytes]);
-    vectors::tally::number(verdict)
+    verdict.number()
 }
 
 // A case on the first bytes of a table.

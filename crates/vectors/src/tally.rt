@@ -1,5 +1,4 @@
 // How many cases were run, and how many came out as expected.
-use faults::Verdict;
 use libc::STDOUT_FILENO;
 
 // `case` is the number of the last case run. Each subject counts from a thousand of its own, so that the number says
@@ -8,14 +7,6 @@ pub struct Tally {
     case: u32,
     run: u32,
     right: u32,
-}
-
-// The number that a call is refused with, 0 where it is accepted.
-pub fn number(verdict: Verdict) -> u8 {
-    match verdict {
-        Verdict::Accepted => 0,
-        Verdict::Refused(fault) => fault.number(),
-    }
 }
 
 fn report(case: u32, got: u64, expected: u64) {

@@ -3,8 +3,21 @@ use borrow.Author.Needs.{needs}
 use Rattle.exports.proofs.decision_number.Statement.{statement}
 use Rattle.exports.proofs.decision_number.Tie as tie
 
-returns-3 : tie.Need-returns-3
-returns-3 c = rw (c .before .before .decision .given .1) (c .refusal .ensures)
+returns : tie.Need-returns
+returns c = rw (c .before .before .decision .given .1) (c .refusal .ensures)
 
 pub decision-number-spec : {M : Type 1} → statement M
-decision-number-spec = tie.close (tie.spec (λ c. search needs) (λ c. search needs) (λ c. search needs) (λ c κs. search needs) (λ c. search needs) (λ c. search needs) returns-3)
+decision-number-spec =
+    tie.close
+    (tie.spec
+    (λ c. search needs)
+    (λ c κs. search needs)
+    (λ c. search needs)
+    (λ c κs. search needs)
+    (λ c. search needs)
+    (λ c. search needs)
+    (λ c κs. search needs)
+    (λ c. search needs)
+    returns
+    (λ c. search needs)
+    (λ c. search needs))
