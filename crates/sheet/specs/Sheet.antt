@@ -47,7 +47,12 @@ MarkedIs bytes model answer (Sheet.Refused f) = pairVerdict bytes model answer 8
 abbrev pub SheetIs : List ℕ → Sheet → Type 0
 SheetIs input sheet = cond (shaped input) (MarkedIs (tableOf input) (modelOf input) (answerOf input) sheet) (sheet ≡ Sheet.Refused TableLength)
 
--- a refusal as the sheet says it
+-- the marking is a refusal
+abbrev pub Refusal : Marking → Type 0
+Refusal (Marking.Refused f) = Unit {0}
+Refusal (Marking.Marked mark) = ⊥
+
+-- it is, and the sheet says the same
 abbrev pub RefusalIs : Marking → Sheet → Type 0
 RefusalIs (Marking.Refused f) sheet = sheet ≡ Sheet.Refused f
-RefusalIs (Marking.Marked mark) sheet = Unit {0}
+RefusalIs (Marking.Marked mark) sheet = ⊥

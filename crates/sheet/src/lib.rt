@@ -7,7 +7,7 @@ ghost use Rattle.table.specs.Entry.{entryAt};
 ghost use Rattle.table.specs.Formulas.{formulaAt};
 ghost use Rattle.tableau.specs.Wants.{Answers};
 ghost use Rattle.decision.specs.Decide.{decideVerdict};
-ghost use Rattle.sheet.specs.Sheet.{shaped, MarkedIs, SheetIs, RefusalIs};
+ghost use Rattle.sheet.specs.Sheet.{shaped, MarkedIs, SheetIs, Refusal, RefusalIs};
 
 pub mod text;
 
@@ -49,13 +49,14 @@ fn possible(table: &[u8], e: usize, words: &mut [u64]) -> bool
     }
 }
 
-// What the sheet says of a marking that is a refusal. It is asked of no other: what it makes of a mark means nothing.
+// A refusal as the sheet says it. The second arm is not reached.
 fn refusal(marking: Marking) -> Sheet
+    requires { ⌜ Refusal marking ⌝ }
     ensures { λ r. ⌜ RefusalIs marking r ⌝ }
 {
     match marking {
         Marking::Refused(f) => Sheet::Refused(f),
-        Marking::Marked(mark) => Sheet::Filled(false, false, mark),
+        Marking::Marked(mark) => Sheet::Refused(Fault::TableLength),
     }
 }
 

@@ -8,6 +8,9 @@ use Rattle.sheet.proofs.Words.{first-accepted, second-accepted}
 use Rattle.sheet.proofs.fill.Statement.{statement}
 use Rattle.sheet.proofs.fill.Tie as tie
 
+refusal-requires : tie.Need-refusal-requires
+refusal-requires c κs = rw (c .enum-told .given .1) tt
+
 returns : tie.Need-returns
 returns c =
     let found = c .before .enum-told .given .1 in
@@ -44,7 +47,7 @@ fill-spec =
     (λ c κs. search needs)
     (λ c. search needs)
     (λ c. search needs)
-    (λ c κs. search needs)
+    refusal-requires
     returns
     (λ c. search needs)
     possible-requires

@@ -1,4 +1,4 @@
--- `refusal` meets its contract.
+-- `refusal` meets its contract: it is asked of no mark.
 use mathlib.Core.Path.{refl}
 use borrow.Author.Needs.{needs}
 use Rattle.sheet.proofs.refusal.Statement.{statement}
@@ -8,7 +8,7 @@ returns : tie.Need-returns
 returns c = rw (c .before .marking .given .1) refl
 
 returns-2 : tie.Need-returns-2
-returns-2 c = rw (c .before .marking2 .given .1) tt
+returns-2 c = absurd (rw (c .before .marking2 .given .1) at (c .before .before .before .pre))
 
 pub refusal-spec : {M : Type 1} → statement M
 refusal-spec =
