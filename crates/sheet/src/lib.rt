@@ -9,6 +9,7 @@ ghost use Rattle.tableau.specs.Wants.{Answers};
 ghost use Rattle.decision.specs.Decide.{decideVerdict};
 ghost use Rattle.sheet.specs.Sheet.{shaped, MarkedIs, SheetIs, Refusal, RefusalIs};
 
+pub mod program;
 pub mod text;
 
 use decision::Decision;
