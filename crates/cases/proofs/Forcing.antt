@@ -8,14 +8,16 @@ use native.Mathlib.Nat.{le-trans}
 use native.Mathlib.Omega.{arith}
 use lib.Dec.{eqb}
 use borrow.Author.Tests.{not-true, eqb-true}
-use Rattle.semantics.specs.Structure.{Structure, count}
+use Rattle.semantics.specs.Count.{count}
+use Rattle.semantics.specs.Structure.{Structure}
 use Rattle.semantics.proofs.Count.{count-mono}
 use Rattle.sets.specs.Set.{member, added, removed, butNot}
 use Rattle.sets.specs.Word.{Greatest}
 use Rattle.table.specs.declared.entry.Entry.{Entry}
+use Rattle.semantics.specs.Answer.{Answers}
+use Rattle.table.specs.Formed.{WellFormed}
 use Rattle.table.specs.Formulas.{depthAt}
-use Rattle.table.proofs.Accepted.{WellFormed}
-use Rattle.tableau.specs.Wants.{truthAt, Answers, Meets}
+use Rattle.tableau.specs.Wants.{truthAt, Meets}
 use Rattle.tableau.proofs.Tests.{both-parts, one-of}
 use Rattle.tableau.proofs.Rules.{not-rule}
 use Rattle.memory.specs.declared.learnt.Ruled.{Ruled}

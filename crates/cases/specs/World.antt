@@ -9,7 +9,7 @@ use Rattle.semantics.specs.Structure.{Structure}
 use Rattle.sets.specs.Set.{member, removed}
 use Rattle.table.specs.declared.entry.Entry.{Entry}
 use Rattle.table.specs.Formulas.{depthAt}
-use Rattle.table.proofs.Accepted.{WellFormed}
+use Rattle.table.specs.Formed.{WellFormed}
 use Rattle.tableau.specs.Wants.{truthAt, Sat}
 use Rattle.wants.specs.declared.Wants.{Wants}
 use Rattle.wants.specs.declared.Outcome.{Outcome}

@@ -3,7 +3,7 @@
 ghost use mathlib.Core.Path.{_≡_};
 ghost use Prim.Native.Nat.{_<_};
 ghost use lib.ListN.{length};
-ghost use Rattle.table.proofs.Accepted.{WellFormed};
+ghost use Rattle.table.specs.Formed.{WellFormed};
 ghost use Rattle.sets.specs.Set.{member};
 ghost use Rattle.wide.specs.Wide.{wideAt};
 ghost use Rattle.memory.specs.Memory.{Memory};

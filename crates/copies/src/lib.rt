@@ -4,7 +4,7 @@ ghost use mathlib.Core.Path.{_≡_};
 ghost use mathlib.Core.Bool.{true};
 ghost use Prim.Native.Nat.{_+_, _<_, _≤_};
 ghost use lib.ListN.{length};
-ghost use Rattle.semantics.proofs.Successors.{gain};
+ghost use Rattle.semantics.specs.Count.{gain};
 ghost use Rattle.sets.specs.Word.{bitAt};
 ghost use Rattle.tableau.specs.Counting.{total};
 ghost use Rattle.tableau.specs.Search.{rowsOf, Extension};

@@ -15,7 +15,7 @@ use Rattle.sets.specs.declared.Set.{Set}
 use Rattle.sets.specs.Set.{member, code}
 use Rattle.table.specs.declared.entry.Entry.{Entry}
 use Rattle.wide.specs.Wide.{wideAt}
-use Rattle.tableau.specs.Wants.{Answers}
+use Rattle.semantics.specs.Answer.{Answers}
 use Rattle.tableau.specs.Counting.{lo, hi, served, spent}
 use Rattle.tableau.specs.Search.{Slot, rowsOf, Problem, asking, Asks, Lacks, Full, Met, Kept, Useful}
 use Rattle.tableau.proofs.Tests.{both-parts, both-made}

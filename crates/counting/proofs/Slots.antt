@@ -8,7 +8,7 @@ use native.Mathlib.Nat.{eq-or-lt-of-le, le-of-suc-le-suc, le-refl}
 use native.Mathlib.Omega.{arith}
 use lib.ListN.{length, set, length-set}
 use lib.Seq.{getD-set-same, getD-set-other}
-use Rattle.semantics.proofs.Successors.{gain}
+use Rattle.semantics.specs.Count.{gain}
 use Rattle.tableau.specs.Search.{Slot, taken}
 use Rattle.counting.specs.Stack.{slotAt, slotsOf, FewCopies, Put}
 

@@ -3,7 +3,7 @@ ghost use mathlib.Core.Path.{_≡_};
 ghost use Prim.Native.Nat.{_<_, _≤_, min, max};
 ghost use lib.ListN.{length};
 ghost use Rattle.sets.specs.Set.{member, code};
-ghost use Rattle.tableau.specs.Wants.{Answers};
+ghost use Rattle.semantics.specs.Answer.{Answers};
 ghost use Rattle.tableau.specs.Search.{asking, Met, Kept, Useful};
 ghost use Rattle.counting.specs.Question.{problemOf};
 ghost use Rattle.counting.specs.Stack.{slotsOf, Few};

@@ -19,7 +19,8 @@ use Rattle.table.specs.Formulas.{formulaAt, depthAt}
 use Rattle.table.specs.Space.{weight, gradeSum, tableWork}
 use Rattle.faults.specs.declared.Verdict.the-variants.{Accepted}
 use Rattle.table.specs.Check.{tableVerdict}
-use Rattle.tableau.specs.Wants.{Answers, truthAt, Sat}
+use Rattle.semantics.specs.Answer.{Answers}
+use Rattle.tableau.specs.Wants.{truthAt, Sat}
 use Rattle.wide.specs.Wide.{wideAt, Widened}
 use Rattle.wide.proofs.Widening.{wide-weight, wide-formed, wide-stands}
 use Rattle.cases.specs.Levels.{Roomy}

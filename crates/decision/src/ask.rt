@@ -2,7 +2,8 @@
 ghost use lib.ListN.{length};
 ghost use Rattle.sets.specs.Set.{member};
 ghost use Rattle.table.specs.Entry.{entryAt};
-ghost use Rattle.tableau.specs.Wants.{Answers, Sat};
+ghost use Rattle.semantics.specs.Answer.{Answers};
+ghost use Rattle.tableau.specs.Wants.{Sat};
 ghost use Rattle.decision.specs.Ask.{TableAsked};
 use sets::Set;
 

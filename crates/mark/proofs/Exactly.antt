@@ -7,7 +7,7 @@ use mathlib.Core.List.{[], _∷_}
 use Prim.Native.Nat.{ℕ}
 use lib.ListN.{getD}
 use Rattle.semantics.specs.Formula.{Formula}
-use Rattle.tableau.specs.Wants.{Answers}
+use Rattle.semantics.specs.Answer.{Answers}
 use Rattle.mark.specs.declared.Mark.{Mark}
 use Rattle.mark.specs.Mark.{Same, Inside, Beyond, MarkIs, numberOf}
 

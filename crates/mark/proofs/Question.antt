@@ -7,7 +7,8 @@ use native.Mathlib.Nat.{le-trans}
 use Rattle.sets.specs.Set.{nothing, added}
 use Rattle.table.specs.declared.entry.Entry.{Entry}
 use Rattle.table.specs.Formulas.{formulaAt}
-use Rattle.tableau.specs.Wants.{Answers, Sat}
+use Rattle.semantics.specs.Answer.{Answers}
+use Rattle.tableau.specs.Wants.{Sat}
 use Rattle.decision.specs.Ask.{TableAsked}
 use Rattle.decision.proofs.Question.{only-one, has-one}
 use Rattle.mark.specs.Mark.{Beyond}

@@ -3,7 +3,7 @@ ghost use mathlib.Core.Path.{_≡_};
 ghost use Prim.Native.Nat.{_<_, _≤_};
 ghost use lib.ListN.{length};
 ghost use Rattle.semantics.specs.Formula.{Formula};
-ghost use Rattle.tableau.specs.Wants.{Answers};
+ghost use Rattle.semantics.specs.Answer.{Answers};
 ghost use Rattle.faults.specs.declared.Verdict.the-variants.{Accepted};
 ghost use Rattle.table.specs.Check.{tableVerdict};
 ghost use Rattle.table.specs.Entry.{entryAt, size};

@@ -11,7 +11,8 @@ use lib.Seq.{getD-set-same, getD-set-other, take-set-le}
 use Rattle.sets.specs.declared.Set.{Set}
 use Rattle.sets.specs.Set.{member, code}
 use Rattle.table.specs.declared.entry.Entry.{Entry}
-use Rattle.tableau.specs.Wants.{Answers, Sat}
+use Rattle.semantics.specs.Answer.{Answers}
+use Rattle.tableau.specs.Wants.{Sat}
 use Rattle.memory.specs.declared.Remembered.{Remembered}
 use Rattle.memory.specs.Memory.{mark, Recalled, Memory, RecallIs, StandsFor, Written, Stored, Shifted}
 

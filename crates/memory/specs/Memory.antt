@@ -7,7 +7,8 @@ use Prim.Native.Nat.{ℕ, _+_, _*_, _<_, _≤_}
 use lib.ListN.{length, getD, take}
 use Rattle.sets.specs.Word.{bitAt}
 use Rattle.table.specs.declared.entry.Entry.{Entry}
-use Rattle.tableau.specs.Wants.{Answers, Sat}
+use Rattle.semantics.specs.Answer.{Answers}
+use Rattle.tableau.specs.Wants.{Sat}
 use Rattle.memory.specs.declared.Place.{Place}
 use Rattle.memory.specs.declared.Remembered.{Remembered}
 

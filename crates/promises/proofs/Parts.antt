@@ -10,7 +10,8 @@ use lib.Dec.{eqb}
 use borrow.Author.Tests.{eq-eqb, ne-eqb, eqb-true}
 use Rattle.sets.specs.declared.Set.{Set}
 use Rattle.sets.specs.Set.{member, nothing, removed, code, Within}
-use Rattle.tableau.specs.Wants.{addedIf, Answers, wanted, Sat}
+use Rattle.semantics.specs.Answer.{Answers}
+use Rattle.tableau.specs.Wants.{addedIf, wanted, Sat}
 use Rattle.tableau.specs.Counting.{bound}
 use Rattle.tableau.specs.Search.{Problem, Fit}
 use Rattle.tableau.proofs.Tests.{both-parts, both-made, one-of}

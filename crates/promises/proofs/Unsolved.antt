@@ -6,7 +6,7 @@ use Rattle.sets.specs.declared.Set.{Set}
 use Rattle.sets.specs.Set.{member}
 use Rattle.wide.specs.Wide.{wideAt}
 use Rattle.tableau.specs.Wants.{Sat}
-use Rattle.table.proofs.Accepted.{WellFormed}
+use Rattle.table.specs.Formed.{WellFormed}
 use Rattle.tableau.specs.Search.{asking, Solvable}
 use Rattle.tableau.proofs.Alone.{alone-solution}
 use Rattle.counting.specs.declared.question.Question.{Question}

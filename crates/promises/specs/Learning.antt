@@ -4,7 +4,7 @@ use mathlib.Core.List.{List}
 use Prim.Native.Nat.{ℕ}
 use lib.ListN.{length, take}
 use Rattle.table.specs.declared.entry.Entry.{Entry}
-use Rattle.table.proofs.Accepted.{WellFormed}
+use Rattle.table.specs.Formed.{WellFormed}
 use Rattle.tableau.specs.Search.{Problem, Solvable}
 use Rattle.counting.specs.Question.{Small}
 use Rattle.wants.specs.declared.Wants.{Wants}

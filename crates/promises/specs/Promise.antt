@@ -7,7 +7,7 @@ use Rattle.semantics.specs.Truth.{truth}
 use Rattle.sets.specs.Set.{Within}
 use Rattle.table.specs.declared.entry.Entry.{Entry}
 use Rattle.table.specs.Formulas.{depthAt}
-use Rattle.table.proofs.Accepted.{WellFormed}
+use Rattle.table.specs.Formed.{WellFormed}
 use Rattle.tableau.specs.Wants.{truthAt, wanted}
 use Rattle.tableau.specs.Counting.{bound, partOf, Feasible}
 use Rattle.tableau.specs.Search.{Problem, asking}

@@ -5,7 +5,8 @@ use Prim.Native.Nat.{ℕ}
 use Rattle.sets.specs.declared.Set.{Set}
 use Rattle.sets.specs.Set.{member}
 use Rattle.wide.specs.Wide.{wideAt}
-use Rattle.tableau.specs.Wants.{Answers, Sat}
+use Rattle.semantics.specs.Answer.{Answers}
+use Rattle.tableau.specs.Wants.{Sat}
 use Rattle.tableau.specs.Search.{Solvable}
 use Rattle.tableau.proofs.Alone.{alone-told, alone-recalled}
 use Rattle.counting.specs.declared.question.Question.{Question}

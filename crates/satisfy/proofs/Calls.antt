@@ -10,14 +10,15 @@ use native.Mathlib.Omega.{arith}
 use lib.ListN.{length, take, drop, length-drop}
 use lib.Seq.{length-take-le}
 use borrow.Author.Tests.{eq-eqb, ne-eqb, not-true}
-use Rattle.semantics.specs.Structure.{count}
+use Rattle.semantics.specs.Count.{count}
 use Rattle.semantics.proofs.Count.{count-mono}
 use Rattle.sets.specs.declared.Set.{Set}
 use Rattle.sets.specs.Set.{member, nothing, removed, butNot, code, Within}
 use Rattle.table.specs.declared.entry.Entry.{Entry}
 use Rattle.table.specs.Formulas.{depthAt}
+use Rattle.semantics.specs.Answer.{Answers}
 use Rattle.table.proofs.Accepted.{depth-rule}
-use Rattle.tableau.specs.Wants.{Answers, wanted, rule}
+use Rattle.tableau.specs.Wants.{wanted, rule}
 use Rattle.tableau.specs.Counting.{bound, need, speaks, Feasible, Solution}
 use Rattle.tableau.specs.Search.{Problem, asking, Fit}
 use Rattle.tableau.proofs.Tests.{one-of, both-parts}

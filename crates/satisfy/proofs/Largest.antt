@@ -11,7 +11,7 @@ use native.Mathlib.Omega.{arith}
 use lib.ListN.{length, take}
 use lib.Dec.{eqb}
 use borrow.Author.Tests.{eqb-true, eq-eqb, ne-eqb}
-use Rattle.semantics.specs.Structure.{count}
+use Rattle.semantics.specs.Count.{count}
 use Rattle.sets.specs.declared.Set.{Set}
 use Rattle.sets.specs.Set.{member, nothing, added, removed, either, butNot, code, Within}
 use Rattle.sets.specs.Word.{bitAt}

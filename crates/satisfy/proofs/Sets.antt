@@ -12,7 +12,8 @@ use Rattle.semantics.specs.Structure.{Structure}
 use Rattle.sets.specs.Set.{member, nothing, removed}
 use Rattle.table.specs.declared.entry.Entry.{Entry}
 use Rattle.table.specs.Formulas.{depthAt}
-use Rattle.tableau.specs.Wants.{Answers, Sat}
+use Rattle.semantics.specs.Answer.{Answers}
+use Rattle.tableau.specs.Wants.{Sat}
 use Rattle.tableau.proofs.Tests.{both-parts}
 use Rattle.wants.specs.declared.Wants.{Wants}
 use Rattle.wants.specs.declared.Outcome.{Outcome}

@@ -11,7 +11,7 @@ use Rattle.semantics.specs.Structure.{Structure}
 use Rattle.sets.specs.Set.{member, nothing, butNot}
 use Rattle.sets.specs.Word.{Greatest}
 use Rattle.table.specs.declared.entry.Entry.{Entry}
-use Rattle.tableau.specs.Wants.{Answers}
+use Rattle.semantics.specs.Answer.{Answers}
 use Rattle.tableau.specs.Counting.{speaks, Solution}
 use Rattle.tableau.proofs.Tests.{both-parts}
 use Rattle.tableau.proofs.Solved.{solved}

@@ -7,7 +7,7 @@ use lib.ListN.{length, take}
 use Rattle.sets.specs.declared.Set.{Set}
 use Rattle.sets.specs.Set.{member, nothing, code, Within}
 use Rattle.table.specs.declared.entry.Entry.{Entry}
-use Rattle.tableau.specs.Wants.{Answers}
+use Rattle.semantics.specs.Answer.{Answers}
 use Rattle.tableau.specs.Counting.{Solution}
 use Rattle.tableau.specs.Search.{Problem, asking, Fit, Solvable}
 use Rattle.wants.specs.declared.Wants.{Wants}

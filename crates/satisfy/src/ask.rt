@@ -2,7 +2,8 @@
 ghost use lib.ListN.{length};
 ghost use Rattle.sets.specs.Set.{member};
 ghost use Rattle.wide.specs.Wide.{wideAt};
-ghost use Rattle.tableau.specs.Wants.{Answers, Sat};
+ghost use Rattle.semantics.specs.Answer.{Answers};
+ghost use Rattle.tableau.specs.Wants.{Sat};
 ghost use Rattle.satisfy.specs.Sets.{SetAsked, TakenIs, SetsAsked, SettlingIs, QuestionAsked};
 use crate::world::ALL;
 use crate::world::world;

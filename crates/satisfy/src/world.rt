@@ -7,7 +7,7 @@ ghost use Prim.Native.Nat.{_-_};
 ghost use lib.ListN.{length};
 ghost use Rattle.sets.specs.Set.{member, either, Within};
 ghost use Rattle.wide.specs.Wide.{wideAt};
-ghost use Rattle.tableau.specs.Wants.{Answers};
+ghost use Rattle.semantics.specs.Answer.{Answers};
 ghost use Rattle.tableau.specs.Search.{Solvable};
 ghost use Rattle.counting.specs.Question.{problemOf};
 ghost use Rattle.cases.specs.World.{SatW, WorldAsked};

@@ -12,7 +12,7 @@ use native.Mathlib.Omega.{arith}
 use lib.ListN.{length, getD, set, length-set}
 use lib.Seq.{getD-set-same, getD-set-other}
 use Rattle.sets.specs.declared.Set.{Set}
-use Rattle.tableau.specs.Wants.{Answers}
+use Rattle.semantics.specs.Answer.{Answers}
 use Rattle.tableau.specs.Search.{Slot, Problem, Extension}
 use Rattle.tableau.specs.Search.Choice.{done, some}
 use Rattle.tableau.specs.Listed.{In}

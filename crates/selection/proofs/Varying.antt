@@ -9,7 +9,7 @@ use native.Mathlib.Decide.{decLt}
 use native.Mathlib.Omega.{arith}
 use lib.ListN.{length, getD}
 use Rattle.sets.specs.declared.Set.{Set}
-use Rattle.tableau.specs.Wants.{Answers}
+use Rattle.semantics.specs.Answer.{Answers}
 use Rattle.tableau.specs.Search.{taken, Problem, Useful, Extension}
 use Rattle.tableau.specs.Search.Choice.{some}
 use Rattle.tableau.proofs.Extend.{ext-none, ext-with-none}

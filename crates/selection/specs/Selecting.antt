@@ -7,7 +7,7 @@ use lib.ListN.{length, getD}
 use Rattle.table.specs.Space.{gradeSum}
 use Rattle.sets.specs.declared.Set.{Set}
 use Rattle.sets.specs.Set.{member}
-use Rattle.tableau.specs.Wants.{Answers}
+use Rattle.semantics.specs.Answer.{Answers}
 use Rattle.tableau.specs.Search.{Slot, taken, Problem, asking, Kept, Solvable, Fit, Lacks, Serving, Extension}
 use Rattle.tableau.specs.Listed.{In, Covers}
 use Rattle.counting.specs.Question.{Small}

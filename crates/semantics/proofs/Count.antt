@@ -9,7 +9,7 @@ use native.Mathlib.Decide.{le-ind}
 use native.Mathlib.Omega.{arith}
 use lib.Dec.{eqb}
 use borrow.Author.Tests.{eq-eqb, ne-eqb}
-use Rattle.semantics.specs.Structure.{bit, count}
+use Rattle.semantics.specs.Count.{bit, count}
 
 -- tests that agree below the bound have the same count
 pub count-ext : {p q : ℕ → Bool} (n : ℕ) → ((i : ℕ) → i < n → p i ≡ q i) → count p n ≡ count q n

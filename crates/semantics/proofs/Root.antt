@@ -8,7 +8,8 @@ use native.Mathlib.Nat.{add-zero}
 use native.Mathlib.Omega.{arith}
 use lib.Dec.{eqb}
 use Rattle.semantics.specs.Formula.{Formula}
-use Rattle.semantics.specs.Structure.{Structure, bit, count, successors}
+use Rattle.semantics.specs.Count.{bit, count}
+use Rattle.semantics.specs.Structure.{Structure, successors}
 use Rattle.semantics.specs.Truth.{truth}
 use Rattle.semantics.proofs.Count.{count-ext, count-one}
 use Rattle.semantics.proofs.Copy.{copy-truth}

@@ -8,7 +8,8 @@ use native.Mathlib.Nat.{le-refl, le-of-suc-le}
 use native.Mathlib.Omega.{arith}
 use lib.ListN.{replicate}
 use Rattle.semantics.specs.Formula.{Formula}
-use Rattle.semantics.specs.Structure.{Structure, bit, count, successors}
+use Rattle.semantics.specs.Count.{bit, count, gain}
+use Rattle.semantics.specs.Structure.{Structure, successors}
 use Rattle.semantics.specs.Truth.{truth}
 use Rattle.semantics.proofs.Root.{Item, counted, tally}
 
@@ -35,11 +36,6 @@ module _ (r : ℕ) (φ : Formula) where
   unfolding tally
   tally-append [] ys = omega arith
   tally-append (i ∷ xs) ys = omega (arith, tally-append xs ys)
-
--- k where the test holds, and 0 where it does not
-abbrev pub gain : Bool → ℕ → ℕ
-gain true k = k
-gain false k = 0
 
 pub gain-zero : (b : Bool) → gain b 0 ≡ 0
 gain-zero true = refl

@@ -8,7 +8,8 @@ use native.Mathlib.Omega.{arith}
 use lib.Dec.{ltb}
 use borrow.Author.Tests.{lt-ltb, le-ltb}
 use Rattle.semantics.specs.Formula.{Formula}
-use Rattle.semantics.specs.Structure.{Structure, count, successors}
+use Rattle.semantics.specs.Count.{count}
+use Rattle.semantics.specs.Structure.{Structure, successors}
 use Rattle.semantics.specs.Truth.{truth}
 use Rattle.semantics.proofs.Count.{count-add, count-ext, count-none}
 use Rattle.semantics.proofs.Copy.{Copy, copy-truth}

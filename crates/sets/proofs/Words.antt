@@ -14,7 +14,7 @@ use lib.Count.{ones, ones-cat, leadingZeros, leading-top}
 use lib.Dec.{eqb, lit<}
 use lib.Pow.{pow-pos, pow-mono, pow-lt, high, low, field, mod-pow-add, mod-mod-pow}
 use borrow.Author.Tests.{eq-eqb, ne-eqb}
-use Rattle.semantics.specs.Structure.{bit, count}
+use Rattle.semantics.specs.Count.{bit, count}
 use Rattle.sets.specs.Word.{bitAt, word, Greatest}
 
 -- ---- a digit: 0 or 1

@@ -3,7 +3,7 @@ use mathlib.Core.Bool.{Bool, true, false}
 use mathlib.Core.Path.{_≡_}
 use Prim.Native.Nat.{ℕ, zero, suc, _+_, _*_, _/_, _%_, _^_, _<_}
 use lib.Dec.{eqb}
-use Rattle.semantics.specs.Structure.{bit}
+use Rattle.semantics.specs.Count.{bit}
 
 -- is bit i of the number set
 unfoldable pub bitAt : ℕ → ℕ → Bool

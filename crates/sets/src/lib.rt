@@ -3,7 +3,7 @@ ghost use mathlib.Core.Path.{_≡_};
 ghost use mathlib.Core.Logic.{_↔_};
 ghost use mathlib.Core.Bool.{true};
 ghost use Prim.Native.Nat.{_<_};
-ghost use Rattle.semantics.specs.Structure.{count};
+ghost use Rattle.semantics.specs.Count.{count};
 ghost use Rattle.sets.specs.Set.{member, nothing, added, removed, either, both, butNot, HighestOf, Within, code, BelowOf};
 
 // Bit i is set where i is in the set.

@@ -5,7 +5,7 @@ use mathlib.Core.List.{List, [], _∷_, _++_}
 use Prim.Native.Nat.{ℕ, _+_, _/_, _%_, _≤_}
 use lib.Dec.{ltb}
 use lib.ListN.{take}
-use Rattle.semantics.specs.Structure.{bit}
+use Rattle.semantics.specs.Count.{bit}
 use Rattle.faults.specs.Verdict.{numberOf as faultNumber}
 use Rattle.mark.specs.Mark.{numberOf as markNumber}
 use Rattle.sheet.specs.declared.Sheet.{Sheet}

@@ -10,7 +10,7 @@ use Rattle.faults.specs.declared.Verdict.the-variants.{Accepted, Refused}
 use Rattle.semantics.specs.Truth.{Satisfiable}
 use Rattle.table.specs.Entry.{entryAt}
 use Rattle.table.specs.Formulas.{formulaAt}
-use Rattle.tableau.specs.Wants.{Answers}
+use Rattle.semantics.specs.Answer.{Answers}
 use Rattle.decision.specs.Call.{pairVerdict}
 use Rattle.mark.specs.declared.Marking.{Marking}
 use Rattle.mark.specs.Mark.{MarkIs}

@@ -5,7 +5,7 @@ ghost use Rattle.faults.specs.declared.Verdict.the-variants.{Accepted};
 ghost use Rattle.semantics.specs.Truth.{Satisfiable};
 ghost use Rattle.table.specs.Entry.{entryAt};
 ghost use Rattle.table.specs.Formulas.{formulaAt};
-ghost use Rattle.tableau.specs.Wants.{Answers};
+ghost use Rattle.semantics.specs.Answer.{Answers};
 ghost use Rattle.decision.specs.Decide.{decideVerdict};
 ghost use Rattle.sheet.specs.Sheet.{shaped, MarkedIs, SheetIs, Refusal, RefusalIs};
 

@@ -1,7 +1,7 @@
 // The line that the mark sheet prints.
 ghost use mathlib.Core.Path.{_≡_};
 ghost use Prim.Native.Nat.{_<_};
-ghost use Rattle.semantics.specs.Structure.{bit};
+ghost use Rattle.semantics.specs.Count.{bit};
 ghost use Rattle.sheet.specs.Line.{refusedText, filledText, textOf, Holds};
 use crate::Sheet;
 

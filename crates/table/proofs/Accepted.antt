@@ -21,15 +21,7 @@ use Rattle.table.specs.Formulas.{kinds, formulaOf, formulaAt, depthAt, d
 use Rattle.table.specs.Check.{usesOf, hasStray, refersUp, entryVerdict, entriesVerdict, lengthFaulty, tableVerdict}
 use Rattle.table.proofs.Cases.{by-kind}
 use Rattle.table.proofs.Formulas.{earlier, earlier-below, formulaAt-earlier, truthOf, truth-formulaOf, depth-formulaOf}
-
--- an entry without a fault of its own, as number i of a table
-pub record Fitting (e : Entry) (i : ℕ) : Type 0 where
-  pub kind : e .kind < 8
-  pub first : usesOf (e .kind) .first ≡ true → e .first < i
-  pub second : usesOf (e .kind) .second ≡ true → e .second < i
-
-abbrev pub WellFormed : (ℕ → Entry) → ℕ → Type 0
-WellFormed entry n = (i : ℕ) → i < n → Fitting (entry i) i
+use Rattle.table.specs.Formed.{Fitting, WellFormed}
 
 below-if-used : (used : Bool) (i j : ℕ) → used && leb i j ≡ false → used ≡ true → j < i
 below-if-used true i j e u = leb-false i j e

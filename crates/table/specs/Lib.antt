@@ -9,3 +9,5 @@ pub mod Check
 pub mod Mask
 -- how many words of work space a decision needs
 pub mod Space
+-- entries without a fault of their own; an inner contract
+pub mod Formed

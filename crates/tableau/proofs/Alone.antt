@@ -11,8 +11,9 @@ use lib.Dec.{eqb}
 use borrow.Author.Tests.{eqb-true, ne-eqb}
 use Rattle.sets.specs.Set.{both, nothing}
 use Rattle.table.specs.declared.entry.Entry.{Entry}
-use Rattle.table.proofs.Accepted.{WellFormed}
-use Rattle.tableau.specs.Wants.{Answers, wanted, rule, Sat, Settled}
+use Rattle.semantics.specs.Answer.{Answers}
+use Rattle.table.specs.Formed.{WellFormed}
+use Rattle.tableau.specs.Wants.{wanted, rule, Sat, Settled}
 use Rattle.tableau.specs.Counting.{boundKind, bound, need, limit, speaks, Row, All, Usable, Solution}
 use Rattle.tableau.proofs.Tests.{both-made, both-parts, one-of}
 use Rattle.tableau.proofs.Treated.{least-met, most-met}

@@ -10,7 +10,7 @@ use borrow.Author.Tests.{eqb-true, eq-eqb, eqb-false, leb-true, leb-false, le-le
 use Rattle.semantics.specs.Structure.{Structure, successors}
 use Rattle.semantics.specs.Truth.{truth}
 use Rattle.table.specs.declared.entry.Entry.{Entry}
-use Rattle.table.proofs.Accepted.{WellFormed}
+use Rattle.table.specs.Formed.{WellFormed}
 use Rattle.tableau.specs.Wants.{truthAt, wanted, rule}
 use Rattle.tableau.specs.Counting.{boundKind, bound, speaks, lo, hi, partOf}
 use Rattle.tableau.proofs.Tests.{both-parts, both-made, one-of}

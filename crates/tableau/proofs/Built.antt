@@ -8,7 +8,7 @@ use lib.Dec.{eqb}
 use borrow.Author.Tests.{eqb-true, eq-eqb}
 use Rattle.semantics.proofs.Root.{Item, rooted, root, root-inside, root-fact, root-count}
 use Rattle.table.specs.declared.entry.Entry.{Entry}
-use Rattle.table.proofs.Accepted.{WellFormed}
+use Rattle.table.specs.Formed.{WellFormed}
 use Rattle.tableau.specs.Wants.{truthAt, wanted, Sat, Settled}
 use Rattle.tableau.specs.Counting.{boundKind, bound, need, limit, speaks, Solution}
 use Rattle.tableau.proofs.Tests.{both-parts}

@@ -13,7 +13,8 @@ use Rattle.table.specs.declared.entry.Entry.{Entry}
 use Rattle.table.specs.Formulas.{formulaAt}
 use Rattle.table.specs.Check.{usesOf}
 use Rattle.table.proofs.Formulas.{truthOf}
-use Rattle.table.proofs.Accepted.{Fitting, WellFormed, truth-rule}
+use Rattle.table.specs.Formed.{Fitting, WellFormed}
+use Rattle.table.proofs.Accepted.{truth-rule}
 use Rattle.tableau.specs.Wants.{truthAt, wanted, rule, Meets, Settled}
 use Rattle.tableau.proofs.Tests.{both, either, both-made, either-made, both-parts, one-of}
 use Rattle.tableau.proofs.Rules.{ofKind}

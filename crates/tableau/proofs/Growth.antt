@@ -10,9 +10,9 @@ use borrow.Author.Tests.{eqb-true, eq-eqb, ne-eqb, not-true}
 use Rattle.semantics.specs.Structure.{Structure}
 use Rattle.table.specs.declared.entry.Entry.{Entry}
 use Rattle.sets.specs.Set.{removed}
-use Rattle.tableau.specs.Wants.{addedIf, truthAt, wanted, rule, NoSameFact, Meets, Settled}
+use Rattle.tableau.specs.Wants.{addedIf, truthAt, wanted, rule, NoSameFact, Meets, Settled, Grows}
 use Rattle.tableau.proofs.Tests.{both-parts, one-of}
-use Rattle.tableau.proofs.Treated.{Grows, rule-grows, rule-split}
+use Rattle.tableau.proofs.Treated.{rule-grows, rule-split}
 
 -- what is in a set with one more
 module _ (p : ℕ → Bool) (i j : ℕ) where

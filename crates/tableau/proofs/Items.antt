@@ -13,7 +13,8 @@ use borrow.Author.Tests.{eq-eqb, ne-eqb}
 use Rattle.semantics.specs.Formula.{Formula}
 use Rattle.semantics.specs.Truth.{truth}
 use Rattle.semantics.proofs.Root.{Item, tally}
-use Rattle.semantics.proofs.Successors.{gain, tally-append, tally-replicate}
+use Rattle.semantics.specs.Count.{gain}
+use Rattle.semantics.proofs.Successors.{tally-append, tally-replicate}
 use Rattle.table.specs.declared.entry.Entry.{Entry}
 use Rattle.tableau.specs.Counting.{bound, need, limit, partOf, Row, total, served, spent, All, Feasible, Usable, Solution}
 use Rattle.tableau.proofs.Bounds.{Fits}

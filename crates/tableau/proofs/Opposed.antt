@@ -11,7 +11,7 @@ use native.Mathlib.Decide.{decLt}
 use native.Mathlib.Omega.{arith}
 use lib.Dec.{eqb}
 use borrow.Author.Tests.{eqb-true}
-use Rattle.semantics.proofs.Successors.{gain}
+use Rattle.semantics.specs.Count.{gain}
 use Rattle.sets.specs.Set.{nothing, added}
 use Rattle.sets.specs.Word.{bitAt}
 use Rattle.tableau.specs.Counting.{Row, total, All, served, spent, lo, hi}

@@ -11,7 +11,8 @@ use Rattle.semantics.specs.Truth.{truth}
 use Rattle.table.specs.declared.entry.Entry.{Entry}
 use Rattle.table.specs.Formulas.{formulaAt}
 use Rattle.table.proofs.Formulas.{truthOf}
-use Rattle.table.proofs.Accepted.{WellFormed, truth-rule}
+use Rattle.table.specs.Formed.{WellFormed}
+use Rattle.table.proofs.Accepted.{truth-rule}
 use Rattle.tableau.specs.Wants.{truthAt}
 use Rattle.tableau.proofs.Tests.{both-parts, either-parts}
 

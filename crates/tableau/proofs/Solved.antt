@@ -9,12 +9,13 @@ use native.Mathlib.Omega.{arith}
 use lib.Dec.{eqb}
 use borrow.Author.Tests.{eqb-true, eq-eqb}
 use Rattle.semantics.specs.Formula.{Formula}
-use Rattle.semantics.specs.Structure.{Structure, bit, successors}
+use Rattle.semantics.specs.Count.{bit, gain}
+use Rattle.semantics.specs.Structure.{Structure, successors}
 use Rattle.semantics.specs.Truth.{truth}
 use Rattle.semantics.proofs.Root.{Item, tally}
-use Rattle.semantics.proofs.Successors.{itemsOf, itemsOf-tally, gain}
+use Rattle.semantics.proofs.Successors.{itemsOf, itemsOf-tally}
+use Rattle.table.specs.Formed.{WellFormed}
 use Rattle.table.specs.declared.entry.Entry.{Entry}
-use Rattle.table.proofs.Accepted.{WellFormed}
 use Rattle.tableau.specs.Wants.{wanted, Meets, Sat}
 use Rattle.tableau.specs.Counting.{boundKind, bound, need, limit, partOf, Row, total, All, Usable, Solution}
 use Rattle.tableau.proofs.Tests.{both-parts, and-grows}

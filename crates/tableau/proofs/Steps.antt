@@ -9,7 +9,7 @@ use Prim.Native.Nat.{ℕ, zero, suc, _+_, _-_, _<_, _≤_, min, zero-le}
 use native.Mathlib.Decide.{le-ind, decLt, ℕ-discrete}
 use native.Mathlib.Nat.{not-suc-le-zero, zero-lt-suc, lt-suc-self, eq-or-lt-of-le}
 use native.Mathlib.Omega.{arith}
-use Rattle.semantics.proofs.Successors.{gain}
+use Rattle.semantics.specs.Count.{gain}
 use Rattle.sets.specs.Word.{bitAt}
 use Rattle.tableau.specs.Counting.{lo, total, served, spent}
 use Rattle.tableau.specs.Search.{Slot, taken, rowsOf, Problem, Asks, Met, Kept, Fit, Choice, codesBelow, Open, Full, Useful}

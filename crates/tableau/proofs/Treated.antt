@@ -5,7 +5,7 @@ use mathlib.Core.Bool.{Bool, true, false, cond, not, _&&_, _||_, or-true}
 use Prim.Native.Nat.{ℕ, zero, suc}
 use lib.Dec.{eqb}
 use Rattle.table.specs.declared.entry.Entry.{Entry}
-use Rattle.tableau.specs.Wants.{wanted, rule}
+use Rattle.tableau.specs.Wants.{wanted, rule, Grows}
 use Rattle.tableau.proofs.Tests.{and-grows, or-grows}
 use Rattle.tableau.proofs.Rules.{ofKind}
 
@@ -43,10 +43,6 @@ module _ (yes no pending : ℕ → Bool) (e : Entry) (i : ℕ) where
   pub most-met : (b : Bool) → e .kind ≡ 7 → rule yes no pending b e i ≡ true
   unfolding rule
   most-met b k = rw k
-
--- more is wanted
-abbrev pub Grows : (yes no yes′ no′ : ℕ → Bool) → Type 0
-Grows p q p′ q′ = (b : Bool) (i : ℕ) → wanted p q b i ≡ true → wanted p′ q′ b i ≡ true
 
 module _ {yes no yes′ no′ : ℕ → Bool} (grows : Grows yes no yes′ no′) (pending pending′ : ℕ → Bool) (e : Entry) (i : ℕ)
     (still : pending i ≡ true → pending′ i ≡ true) where

@@ -7,7 +7,7 @@ use lib.Dec.{eqb}
 use Rattle.semantics.specs.Formula.{Formula}
 use Rattle.semantics.specs.Structure.{Structure}
 use Rattle.semantics.specs.Truth.{truth}
-use Rattle.semantics.proofs.Successors.{gain}
+use Rattle.semantics.specs.Count.{gain}
 use Rattle.table.specs.declared.entry.Entry.{Entry}
 use Rattle.table.specs.Formulas.{formulaAt}
 

@@ -20,11 +20,6 @@ addedIf false p i = p
 abbrev pub truthAt : (ℕ → Entry) → Structure → ℕ → ℕ → Bool
 truthAt entry s w i = truth s (formulaAt entry i) w
 
--- what a yes-or-no answer says of a question
-abbrev pub Answers : Bool → Type 0 → Type 0
-Answers true P = P
-Answers false P = P → ⊥
-
 module _ (yes no : ℕ → Bool) where
   -- the entries wanted b: those of yes are wanted true, those of no are wanted false
   abbrev pub wanted : (b : Bool) → ℕ → Bool
@@ -49,6 +44,10 @@ module _ (yes no : ℕ → Bool) where
       ∷ [])
       (e .kind)
       false
+
+-- more is wanted
+abbrev pub Grows : (yes no yes′ no′ : ℕ → Bool) → Type 0
+Grows p q p′ q′ = (b : Bool) (i : ℕ) → wanted p q b i ≡ true → wanted p′ q′ b i ≡ true
 
 module _ (entry : ℕ → Entry) where
   -- if entry i is a fact, no entry of the set is the same fact

@@ -3,7 +3,7 @@
 use mathlib.Core.Bool.{Bool, true, false, not}
 use mathlib.Core.List.{List}
 use Prim.Native.Nat.{ℕ, zero, suc, _+_, _-_, _*_, _/_, _<_, _≤_}
-use Rattle.semantics.specs.Structure.{bit}
+use Rattle.semantics.specs.Count.{bit}
 use Rattle.sets.specs.Word.{bitAt}
 use Rattle.tableau.specs.Counting.{lo, hi, served, spent}
 use Rattle.tableau.specs.Search.{Slot, rowsOf, Problem, Asks}

@@ -3,7 +3,8 @@ use mathlib.Core.Path.{_≡_, refl}
 use mathlib.Core.List.{List, [], _∷_, map}
 use Prim.Native.Nat.{ℕ}
 use Rattle.semantics.specs.Formula.{Formula, verum, falsum, fact, neg, conj, atLeast, atMost}
-use Rattle.semantics.specs.Structure.{Structure, count}
+use Rattle.semantics.specs.Count.{count}
+use Rattle.semantics.specs.Structure.{Structure}
 use Rattle.semantics.specs.Truth.{truth}
 use Rattle.sets.specs.Word.{word}
 use Rattle.structure.specs.Record.{tripleAt}

@@ -8,7 +8,8 @@ use lib.Dec.{eqb}
 use borrow.Author.Tests.{eqb-true, eq-eqb}
 use Rattle.semantics.specs.Structure.{Structure}
 use Rattle.table.specs.declared.entry.Entry.{Entry}
-use Rattle.tableau.specs.Wants.{truthAt, Answers}
+use Rattle.semantics.specs.Answer.{Answers}
+use Rattle.tableau.specs.Wants.{truthAt}
 use Rattle.tableau.proofs.Tests.{both-parts}
 use Rattle.tableau.proofs.Rules.{constant-rule, zero-rule, fact-rule}
 use Rattle.wants.specs.declared.Wants.{Wants}

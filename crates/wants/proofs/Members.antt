@@ -7,7 +7,7 @@ use native.Mathlib.Nat.{eq-or-lt-of-le, le-of-suc-le-suc, not-suc-le-zero}
 use native.Mathlib.Omega.{arith}
 use lib.Dec.{eqb}
 use borrow.Author.Tests.{eq-eqb, ne-eqb}
-use Rattle.semantics.specs.Structure.{count}
+use Rattle.semantics.specs.Count.{count}
 use Rattle.semantics.proofs.Count.{count-mono}
 use Rattle.sets.specs.Set.{removed}
 use Rattle.tableau.proofs.Tests.{both-parts}

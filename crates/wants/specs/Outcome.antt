@@ -7,9 +7,8 @@ use Rattle.semantics.specs.Structure.{Structure}
 use Rattle.sets.specs.Set.{member}
 use Rattle.table.specs.declared.entry.Entry.{Entry}
 use Rattle.table.specs.Formulas.{depthAt}
-use Rattle.table.proofs.Accepted.{WellFormed}
-use Rattle.tableau.specs.Wants.{truthAt, wanted, Meets, Settled}
-use Rattle.tableau.proofs.Treated.{Grows}
+use Rattle.table.specs.Formed.{WellFormed}
+use Rattle.tableau.specs.Wants.{truthAt, wanted, Meets, Settled, Grows}
 use Rattle.wants.specs.declared.Wants.{Wants}
 use Rattle.wants.specs.declared.Outcome.{Outcome}
 

@@ -8,8 +8,7 @@ use native.Mathlib.Nat.{lt-irrefl, mul-one, mul-zero, zero-mul}
 use native.Mathlib.Decide.{ℕ-discrete}
 use native.Mathlib.Omega.{arith}
 use borrow.Author.Tests.{ne-eqb}
-use Rattle.semantics.specs.Structure.{bit}
-use Rattle.semantics.proofs.Successors.{gain}
+use Rattle.semantics.specs.Count.{bit, gain}
 use Rattle.sets.specs.Set.{added, both, butNot}
 use Rattle.sets.specs.Word.{bitAt}
 use Rattle.tableau.specs.Search.{Slot, Problem, Asks}

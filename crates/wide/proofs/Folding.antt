@@ -11,7 +11,8 @@ use Rattle.semantics.specs.Formula.{falsum}
 use Rattle.table.specs.declared.entry.Entry.{Entry}
 use Rattle.table.specs.Formulas.{kinds, formulaOf, formulaAt}
 use Rattle.table.specs.Check.{usesOf}
-use Rattle.table.proofs.Accepted.{WellFormed, formula-rule}
+use Rattle.table.specs.Formed.{WellFormed}
+use Rattle.table.proofs.Accepted.{formula-rule}
 use Rattle.wide.specs.Wide.{StandsFor}
 use Rattle.wide.specs.Fold.{Turned}
 use Rattle.wide.proofs.Standing.{stands-then, join, constant, undouble, join-turned, join-neutral, join-decided, join-same}

@@ -13,7 +13,8 @@ use Rattle.table.specs.declared.entry.Entry.{Entry}
 use Rattle.table.specs.Entry.{entryAt}
 use Rattle.table.specs.Formulas.{formulas, formulaAt}
 use Rattle.table.specs.Space.{weight}
-use Rattle.table.proofs.Accepted.{WellFormed, Fitting, formula-rule}
+use Rattle.table.specs.Formed.{WellFormed, Fitting}
+use Rattle.table.proofs.Accepted.{formula-rule}
 use Rattle.wide.specs.Wide.{wideOf, wideAt, FitsWide, StandsFor, Widened}
 use Rattle.wide.specs.Fold.{Turned, Folded}
 use Rattle.wide.proofs.Standing.{stands-then, entry-stands}

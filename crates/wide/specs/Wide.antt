@@ -12,7 +12,7 @@ use Rattle.table.specs.declared.entry.Entry.{Entry}
 use Rattle.table.specs.Entry.{entryAt}
 use Rattle.table.specs.Formulas.{formulaAt}
 use Rattle.table.specs.Space.{weight}
-use Rattle.table.proofs.Accepted.{WellFormed}
+use Rattle.table.specs.Formed.{WellFormed}
 
 -- kind 4 bits, name 16, another name 16 that is not used yet, first 8, second 8, grade 12, most significant first
 abbrev pub wideOf : ℕ → Entry

@@ -3,7 +3,7 @@
 ghost use mathlib.Core.Path.{_≡_};
 ghost use Prim.Native.Nat.{suc, _≤_};
 ghost use lib.ListN.{getD};
-ghost use Rattle.table.proofs.Accepted.{WellFormed};
+ghost use Rattle.table.specs.Formed.{WellFormed};
 ghost use Rattle.wide.specs.Wide.{wideAt, FitsWide};
 ghost use Rattle.wide.specs.Fold.{Turned, Folded};
 use crate::wide_at;

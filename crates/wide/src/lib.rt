@@ -2,7 +2,7 @@
 ghost use mathlib.Core.Path.{_≡_};
 ghost use Prim.Native.Nat.{_≤_};
 ghost use Rattle.table.specs.Entry.{entryAt, size};
-ghost use Rattle.table.proofs.Accepted.{WellFormed};
+ghost use Rattle.table.specs.Formed.{WellFormed};
 ghost use Rattle.wide.specs.Wide.{wideOf, wideAt, FitsWide, Widened};
 
 pub mod fold;

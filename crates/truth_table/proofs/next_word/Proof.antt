@@ -8,7 +8,8 @@ use Rattle.structure.specs.Read.{structureOf}
 use Rattle.table.specs.declared.entry.Entry.{Entry}
 use Rattle.table.specs.Entry.{entryAt}
 use Rattle.table.specs.Formulas.{formulaOf, formulaAt}
-use Rattle.table.proofs.Accepted.{Fitting, accepted, formula-rule}
+use Rattle.table.specs.Formed.{Fitting}
+use Rattle.table.proofs.Accepted.{accepted, formula-rule}
 use Rattle.truth_table.proofs.next_word.Statement.{statement}
 use Rattle.truth_table.proofs.next_word.Tie as tie
 

@@ -3,7 +3,7 @@ use mathlib.Core.Path.{_≡_}
 use mathlib.Core.Bool.{true}
 use lib.ListN.{length}
 use borrow.Author.Needs.{needs}
-use Rattle.semantics.specs.Structure.{count}
+use Rattle.semantics.specs.Count.{count}
 use Rattle.sets.specs.Set.{member}
 use Rattle.counting.specs.Question.{problemOf}
 use Rattle.wants.proofs.Members.{count-removed}

@@ -9,7 +9,7 @@ use native.Mathlib.Omega.{arith}
 use lib.ListN.{length, take, drop}
 use lib.Seq.{length-front, length-take-le, take-at}
 use borrow.Author.Needs.{needs}
-use Rattle.semantics.specs.Structure.{count}
+use Rattle.semantics.specs.Count.{count}
 use Rattle.sets.specs.Set.{member, Within, either, nothing, code}
 use Rattle.sets.specs.Word.{Greatest}
 use Rattle.wide.specs.Wide.{wideAt}

@@ -3,7 +3,7 @@ use mathlib.Core.Bool.{Bool, true, false}
 use Prim.Native.Nat.{_<_}
 use native.Mathlib.Omega.{arith}
 use borrow.Author.Needs.{needs}
-use Rattle.semantics.specs.Structure.{bit}
+use Rattle.semantics.specs.Count.{bit}
 use Rattle.mark.specs.declared.Mark.{Mark}
 use Rattle.mark.specs.Mark.{numberOf}
 use Rattle.sheet.proofs.text.line_of.Statement.{statement}

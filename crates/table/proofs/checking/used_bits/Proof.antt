@@ -6,7 +6,7 @@ use lib.Dec.{eqb}
 use lib.ListN.{getD}
 use borrow.Author.Needs.{needs}
 use borrow.Author.Tests.{eqb-true}
-use Rattle.semantics.specs.Structure.{count}
+use Rattle.semantics.specs.Count.{count}
 use Rattle.semantics.proofs.Count.{count-all}
 use Rattle.table.specs.Check.{usesOf}
 use Rattle.table.specs.Mask.{usedBits}

@@ -7,7 +7,8 @@ use native.Mathlib.Omega.{arith}
 use lib.Bits.{bitAnd, bitOr}
 use lib.Count.{ones}
 use borrow.Author.Needs.{needs}
-use Rattle.semantics.specs.Structure.{bit, successors}
+use Rattle.semantics.specs.Count.{bit}
+use Rattle.semantics.specs.Structure.{successors}
 use Rattle.sets.specs.Word.{word}
 use Rattle.sets.proofs.Words.{word-next, ones-both}
 use Rattle.structure.specs.Read.{structureOf}
