@@ -52,7 +52,7 @@ module _ (P : Problem) where
     pub memory : Remembers (P .entry) depth level work
 
   -- some of its needs and limits are tried alone
-  pub record WithoutAsked (depth level : ℕ) (work : List ℕ) : Type 0 where
+  pub record RefuteAsked (depth level : ℕ) (work : List ℕ) : Type 0 where
     pub promising : Promising P (asking P) (depth - 1)
     pub deep : 0 < depth
     pub room : Roomy (P .entry) (P .n) depth level (length work)

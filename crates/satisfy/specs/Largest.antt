@@ -64,7 +64,7 @@ module _ (P : Problem) where
     pub memory : Remembers (P .entry) depth level after
 
   -- more sets are to be listed, behind k others
-  pub record EnrichAsked (all : Set) (k depth level : ℕ) (work : List ℕ) : Type 0 where
+  pub record ExtendAsked (all : Set) (k depth level : ℕ) (work : List ℕ) : Type 0 where
     pub problem : ProblemAsked P all depth level work
     pub lists : Lists P k level work
 

@@ -13,9 +13,9 @@ ghost use Rattle.counting.specs.Question.{problemOf};
 ghost use Rattle.cases.specs.World.{SatW, WorldAsked};
 ghost use Rattle.cases.specs.Levels.{Remembers};
 ghost use Rattle.promises.specs.Listing.{FitList};
-ghost use Rattle.satisfy.specs.Asking.{CountAsked, CountAnswers, LeafAsked, RelationAsked, ProblemAsked, PromisesAsked, WithoutAsked, Kept, Opposed};
+ghost use Rattle.satisfy.specs.Asking.{CountAsked, CountAnswers, LeafAsked, RelationAsked, ProblemAsked, PromisesAsked, RefuteAsked, Kept, Opposed};
 ghost use Rattle.satisfy.specs.Greedy.{GrowAsked, GrownIs, GreedyIs};
-ghost use Rattle.satisfy.specs.Largest.{ListAsked, ListingIs, CoreAsked, CoreIs, EnrichAsked, SaidIs, GuessIs};
+ghost use Rattle.satisfy.specs.Largest.{ListAsked, ListingIs, CoreAsked, CoreIs, ExtendAsked, SaidIs, GuessIs};
 use crate::answers::Guess;
 use crate::answers::Said;
 use cases::branch::branch;
@@ -371,7 +371,7 @@ fn extend(
     level: usize,
     work: &mut [u64],
 ) -> usize
-    requires { ⌜ EnrichAsked (problemOf (now entries) q) all k depth level (now work) ⌝ }
+    requires { ⌜ ExtendAsked (problemOf (now entries) q) all k depth level (now work) ⌝ }
     ensures { λ r. ⌜ FitList (problemOf (now (entries .entry)) q) r depth level (now (work .exit)) ⌝ }
 {
     let mut listed = k;
@@ -418,7 +418,7 @@ fn refute(
     level: usize,
     work: &mut [u64],
 ) -> bool
-    requires { ⌜ WithoutAsked (problemOf (now entries) q) depth level (now work) ⌝ }
+    requires { ⌜ RefuteAsked (problemOf (now entries) q) depth level (now work) ⌝ }
     ensures { λ r. ⌜ (r ≡ true → Solvable (problemOf (now (entries .entry)) q) → ⊥) × Remembers (wideAt (now (entries .entry))) depth level (now (work .exit)) ⌝ }
 {
     let p = narrowed(q, s);
