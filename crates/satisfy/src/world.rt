@@ -583,7 +583,8 @@ fn grown_by(
     }
 }
 
-// The same without a list: the search asks of each set that it comes to whether it can be kept.
+// Whether the needs and limits of a relation have a solution, without a list: the search asks of each set that it comes to
+// whether it can be kept.
 fn probe(
     entries: &[u64],
     q: Question,
