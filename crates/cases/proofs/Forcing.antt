@@ -18,14 +18,14 @@ use Rattle.semantics.specs.Answer.{Answers}
 use Rattle.table.specs.Formed.{WellFormed}
 use Rattle.table.specs.Formulas.{depthAt}
 use Rattle.tableau.specs.Wants.{truthAt, Meets}
-use Rattle.tableau.proofs.Tests.{both-parts, one-of}
+use Rattle.sets.proofs.Tests.{both-parts, one-of}
 use Rattle.tableau.proofs.Rules.{not-rule}
 use Rattle.memory.specs.declared.learnt.Ruled.{Ruled}
 use Rattle.memory.specs.Learnt.{RuledIs}
 use Rattle.wants.specs.declared.Wants.{Wants}
 use Rattle.wants.specs.declared.Outcome.{Outcome}
 use Rattle.wants.specs.Outcome.{wantedW, Asked, OutcomeIs}
-use Rattle.wants.proofs.Members.{count-removed}
+use Rattle.sets.proofs.Members.{count-removed}
 use Rattle.cases.specs.World.{SatW, serving, Ready, Waiting, Lightened}
 use Rattle.cases.specs.Force.{Shown, RuledFor, Forced, ForcedIs}
 use Rattle.cases.proofs.Splitting.{inside, first-below, second-below, part-depths, cases, light-ready, light-sound}

@@ -16,7 +16,7 @@ use Rattle.table.specs.declared.entry.Entry.{Entry}
 use Rattle.table.specs.Check.{usesOf}
 use Rattle.table.specs.Formulas.{depthAt, depthOf}
 use Rattle.table.proofs.Accepted.{depth-rule}
-use Rattle.tableau.proofs.Tests.{both-parts}
+use Rattle.sets.proofs.Tests.{both-parts}
 use Rattle.tableau.proofs.Rules.{either-rule}
 use Rattle.tableau.proofs.Growth.{meets-fewer, split-settled}
 use Rattle.wants.specs.declared.Wants.{Wants}

@@ -18,7 +18,7 @@ use Rattle.wide.specs.Wide.{wideAt}
 use Rattle.semantics.specs.Answer.{Answers}
 use Rattle.tableau.specs.Counting.{lo, hi, served, spent}
 use Rattle.tableau.specs.Search.{Slot, rowsOf, Problem, asking, Asks, Lacks, Full, Met, Kept, Useful}
-use Rattle.tableau.proofs.Tests.{both-parts, both-made}
+use Rattle.sets.proofs.Tests.{both-parts, both-made}
 use Rattle.tableau.proofs.Bounds.{bound-speaks}
 use Rattle.counting.specs.declared.question.Question.{Question}
 use Rattle.counting.specs.Question.{problemOf, asks}

@@ -14,7 +14,7 @@ use Rattle.semantics.specs.Answer.{Answers}
 use Rattle.tableau.specs.Wants.{addedIf, wanted, Sat}
 use Rattle.tableau.specs.Counting.{bound}
 use Rattle.tableau.specs.Search.{Problem, Fit}
-use Rattle.tableau.proofs.Tests.{both-parts, both-made, one-of}
+use Rattle.sets.proofs.Tests.{both-parts, both-made, one-of}
 use Rattle.tableau.proofs.Promises.{sat-feasible}
 use Rattle.tableau.proofs.Alone.{answers}
 use Rattle.promises.specs.Promise.{Promising, HasPart, PartsOf}

@@ -17,7 +17,7 @@ use Rattle.table.proofs.Accepted.{depth-rule}
 use Rattle.tableau.specs.Wants.{wanted, Settled}
 use Rattle.tableau.specs.Counting.{boundKind, bound}
 use Rattle.tableau.specs.Search.{Problem}
-use Rattle.tableau.proofs.Tests.{both-parts, both-made, one-of}
+use Rattle.sets.proofs.Tests.{both-parts, both-made, one-of}
 use Rattle.tableau.proofs.Bounds.{bound-cases}
 use Rattle.tableau.proofs.Promises.{sat-feasible}
 use Rattle.wants.specs.declared.Wants.{Wants}

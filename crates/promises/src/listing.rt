@@ -95,27 +95,6 @@ pub fn selected(
     solved(entries, q, all, &mut work[..reach], at, k)
 }
 
-// The set of the highest member alone.
-pub fn highest_of(set: Set) -> Set
-    ensures { λ r. ⌜ Within (member r) (member set) ⌝ }
-{
-    let Highest::At(i) = set.highest() else {
-        return set;
-    };
-    set.minus(set.without(i))
-}
-
-// The same, of those that come first, if there are any.
-pub fn foremost(set: Set, first: Set) -> Set
-    ensures { λ r. ⌜ Within (member r) (member set) ⌝ }
-{
-    let common = set.intersection(first);
-    if common.is_empty() {
-        return highest_of(set);
-    }
-    highest_of(common)
-}
-
 // The divisor of weights that refute that k listed sets give a solution, or 0: they stand in the words behind the list then.
 pub fn weighs(
     entries: &[u64],
@@ -160,7 +139,7 @@ pub fn blamed_behind(entries: &[u64], q: Question, k: usize, level: usize, work:
     requires { ⌜ Small (problemOf (now entries) q) × Placed (length (now entries)) k level (length (now work)) ⌝ }
 {
     if k == 0 {
-        return blamed(entries, q, highest_of(unmet(entries, q, work, 0)));
+        return blamed(entries, q, unmet(entries, q, work, 0).highest_alone());
     }
     let at = place(entries.len(), level);
     blamed(entries, q, weighing(work, at + k))

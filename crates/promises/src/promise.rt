@@ -25,14 +25,6 @@ pub struct Parts {
     pub no: Set,
 }
 
-// The promises of two entries.
-pub fn pair(i: usize, j: usize) -> Set
-    requires { ⌜ (i < 64) × (j < 64) ⌝ }
-    ensures { λ r. ⌜ member r ≡ added (added nothing i) j ⌝ }
-{
-    Set::empty().with(i).with(j)
-}
-
 // Wants entry e to be so, if that is asked.
 fn want_if(entries: &[u64], e: usize, w: Wants, truth: bool, so: bool) -> Outcome
     requires { ⌜ Asked (wideAt (now entries)) (length (now entries)) e w ⌝ }

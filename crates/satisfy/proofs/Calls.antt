@@ -21,12 +21,12 @@ use Rattle.table.proofs.Accepted.{depth-rule}
 use Rattle.tableau.specs.Wants.{wanted, rule}
 use Rattle.tableau.specs.Counting.{bound, need, speaks, Feasible, Solution}
 use Rattle.tableau.specs.Search.{Problem, asking, Fit}
-use Rattle.tableau.proofs.Tests.{one-of, both-parts}
+use Rattle.sets.proofs.Tests.{one-of, both-parts}
 use Rattle.tableau.proofs.Bounds.{bound-cases}
 use Rattle.counting.specs.declared.question.Question.{Question}
 use Rattle.counting.specs.Question.{Small}
 use Rattle.wants.specs.declared.Wants.{Wants}
-use Rattle.wants.proofs.Members.{count-removed}
+use Rattle.sets.proofs.Members.{count-removed}
 use Rattle.cases.specs.World.{SatW, Ready}
 use Rattle.cases.specs.Levels.{Roomy, Remembers}
 use Rattle.promises.specs.Promise.{Promising, Promised}

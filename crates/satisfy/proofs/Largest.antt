@@ -21,7 +21,7 @@ use Rattle.tableau.specs.Listed.{In, Covers}
 use Rattle.tableau.specs.Wants.{wanted}
 use Rattle.tableau.proofs.Narrowed.{narrowed}
 use Rattle.tableau.proofs.Promises.{feasible-fewer}
-use Rattle.tableau.proofs.Tests.{one-of, both-parts, both-made}
+use Rattle.sets.proofs.Tests.{one-of, both-parts, both-made}
 use Rattle.memory.proofs.Moved.{memory-moved}
 use Rattle.wide.specs.Wide.{wideAt}
 use Rattle.counting.specs.declared.question.Question.{Question}
@@ -29,7 +29,7 @@ use Rattle.counting.specs.Question.{problemOf, NoNeed, Closed}
 use Rattle.listed.specs.Codes.{codesFrom, Inside}
 use Rattle.promises.specs.declared.listing.Listing.{Listing}
 use Rattle.satisfy.specs.declared.answers.Guess.{Guess}
-use Rattle.wants.proofs.Members.{count-removed}
+use Rattle.sets.proofs.Members.{count-removed}
 use Rattle.cases.specs.Levels.{listRoom, Roomy, Remembers}
 use Rattle.promises.specs.Promise.{Promising}
 use Rattle.promises.specs.Listing.{Placed, listOf, AlsoIs, AlsoNew, Lists, FitList, NarrowedIs}

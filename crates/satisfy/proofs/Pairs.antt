@@ -13,7 +13,7 @@ use Rattle.wide.specs.Wide.{wideAt}
 use Rattle.tableau.specs.Wants.{wanted}
 use Rattle.tableau.specs.Counting.{bound}
 use Rattle.tableau.specs.Search.{Problem, asking, Asks, Fit, Solvable}
-use Rattle.tableau.proofs.Tests.{both-parts, both-made, one-of}
+use Rattle.sets.proofs.Tests.{both-parts, both-made, one-of}
 use Rattle.tableau.proofs.Bounds.{bound-made, bound-cases, bound-speaks}
 use Rattle.tableau.proofs.Opposed.{pair-within, opposed}
 use Rattle.counting.specs.declared.question.Question.{Question}

@@ -13,7 +13,7 @@ use Rattle.sets.specs.Word.{Greatest}
 use Rattle.table.specs.declared.entry.Entry.{Entry}
 use Rattle.semantics.specs.Answer.{Answers}
 use Rattle.tableau.specs.Counting.{speaks, Solution}
-use Rattle.tableau.proofs.Tests.{both-parts}
+use Rattle.sets.proofs.Tests.{both-parts}
 use Rattle.tableau.proofs.Solved.{solved}
 use Rattle.tableau.proofs.Built.{built}
 use Rattle.wants.specs.declared.Wants.{Wants}

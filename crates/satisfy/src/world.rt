@@ -50,14 +50,12 @@ use promises::listing::also;
 use promises::listing::also_new;
 use promises::listing::blamed;
 use promises::listing::blamed_behind;
-use promises::listing::foremost;
 use promises::listing::is_short;
 use promises::listing::known;
 use promises::listing::narrowed;
 use promises::listing::prices_behind;
 use promises::listing::selected;
 use promises::listing::weighs;
-use promises::promise::pair;
 use promises::promise::parts_of;
 use promises::promise::promised;
 use promises::relation::counted;
@@ -522,7 +520,7 @@ fn greedy(
             entries,
             q,
             Set::empty(),
-            foremost(open, first),
+            open.foremost(first),
             depth,
             level,
             work,
@@ -711,7 +709,7 @@ fn opposed(
             Highest::At(j) => {
                 limits = limits.without(j);
                 if exceeds(entries, q, i, j) {
-                    let both = pair(i, j).union(base);
+                    let both = Set::pair(i, j).union(base);
                     if !keeps(entries, q, both, depth, level, work) {
                         learn_refuted(entries, narrowed(q, both), depth, level, work);
                         return true;

@@ -31,6 +31,14 @@ impl Set {
         Set { bits: 0 }
     }
 
+    // The set of two numbers.
+    pub fn pair(i: usize, j: usize) -> Set
+        requires { ⌜ (i < 64) × (j < 64) ⌝ }
+        ensures { λ r. ⌜ member r ≡ added (added nothing i) j ⌝ }
+    {
+        Set::empty().with(i).with(j)
+    }
+
     // Is i in the set? No number from 64 on is.
     pub fn contains(self, i: usize) -> bool
         ensures { λ r. ⌜ r ≡ member self i ⌝ }
@@ -126,6 +134,27 @@ impl Set {
         } else {
             Highest::At((63 - u64::leading_zeros(bits)) as usize)
         }
+    }
+
+    // The set of the greatest number alone.
+    pub fn highest_alone(self) -> Set
+        ensures { λ r. ⌜ Within (member r) (member self) ⌝ }
+    {
+        let Highest::At(i) = self.highest() else {
+            return self;
+        };
+        self.minus(self.without(i))
+    }
+
+    // The same, of those that come first, if there are any.
+    pub fn foremost(self, first: Set) -> Set
+        ensures { λ r. ⌜ Within (member r) (member self) ⌝ }
+    {
+        let common = self.intersection(first);
+        if common.is_empty() {
+            return self.highest_alone();
+        }
+        common.highest_alone()
     }
 
     // Of the sets within another one, as this set is, the one that comes next below it in the order of their codes.

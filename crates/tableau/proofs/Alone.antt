@@ -15,7 +15,7 @@ use Rattle.semantics.specs.Answer.{Answers}
 use Rattle.table.specs.Formed.{WellFormed}
 use Rattle.tableau.specs.Wants.{wanted, rule, Sat, Settled}
 use Rattle.tableau.specs.Counting.{boundKind, bound, need, limit, speaks, Row, All, Usable, Solution}
-use Rattle.tableau.proofs.Tests.{both-made, both-parts, one-of}
+use Rattle.sets.proofs.Tests.{both-made, both-parts, one-of}
 use Rattle.tableau.proofs.Treated.{least-met, most-met}
 use Rattle.tableau.proofs.Bounds.{bound-made, bound-cases, bound-speaks}
 use Rattle.tableau.proofs.Solved.{solved}

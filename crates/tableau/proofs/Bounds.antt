@@ -13,7 +13,7 @@ use Rattle.table.specs.declared.entry.Entry.{Entry}
 use Rattle.table.specs.Formed.{WellFormed}
 use Rattle.tableau.specs.Wants.{truthAt, wanted, rule}
 use Rattle.tableau.specs.Counting.{boundKind, bound, speaks, lo, hi, partOf}
-use Rattle.tableau.proofs.Tests.{both-parts, both-made, one-of}
+use Rattle.sets.proofs.Tests.{both-parts, both-made, one-of}
 use Rattle.tableau.proofs.Rules.{truth-of-kind}
 
 module _ (yes no : ℕ → Bool) (e : Entry) (i : ℕ) where

@@ -11,7 +11,7 @@ use Rattle.table.specs.declared.entry.Entry.{Entry}
 use Rattle.table.specs.Formed.{WellFormed}
 use Rattle.tableau.specs.Wants.{truthAt, wanted, Sat, Settled}
 use Rattle.tableau.specs.Counting.{boundKind, bound, need, limit, speaks, Solution}
-use Rattle.tableau.proofs.Tests.{both-parts}
+use Rattle.sets.proofs.Tests.{both-parts}
 use Rattle.tableau.proofs.Rules.{truth-of-kind}
 use Rattle.tableau.proofs.Closure.{Elementary, is-fact, is-least, is-most, is-pending, closure}
 use Rattle.tableau.proofs.Bounds.{bound-made, bound-cases, bound-speaks, fits-truth}

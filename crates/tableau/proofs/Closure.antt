@@ -16,7 +16,7 @@ use Rattle.table.proofs.Formulas.{truthOf}
 use Rattle.table.specs.Formed.{Fitting, WellFormed}
 use Rattle.table.proofs.Accepted.{truth-rule}
 use Rattle.tableau.specs.Wants.{truthAt, wanted, rule, Meets, Settled}
-use Rattle.tableau.proofs.Tests.{both, either, both-made, either-made, both-parts, one-of}
+use Rattle.sets.proofs.Tests.{both, either, both-made, either-made, both-parts, one-of}
 use Rattle.tableau.proofs.Rules.{ofKind}
 
 -- what no rule settles: facts, counting entries, and what is pending

@@ -15,7 +15,7 @@ use Rattle.tableau.specs.Wants.{wanted}
 use Rattle.tableau.specs.Counting.{bound, need, Row, All}
 use Rattle.tableau.specs.Search.{Slot, taken, rowsOf, Each, Problem, asking, Met, Kept, Solvable, FitRow, Fit, codesBelow, Ext, Open}
 use Rattle.tableau.specs.Search.Open.{next}
-use Rattle.tableau.proofs.Tests.{both-parts, one-of}
+use Rattle.sets.proofs.Tests.{both-parts, one-of}
 use Rattle.tableau.proofs.Bounds.{bound-cases}
 use Rattle.tableau.proofs.Extend.{ext-done, ext-inserted, below-listed}
 

@@ -5,7 +5,7 @@ use mathlib.Core.Bool.{Bool, true, false, _||_, or-true, false≢true}
 use Prim.Native.Nat.{ℕ, zero, suc, _+_, _<_}
 use native.Mathlib.Nat.{eq-or-lt-of-le, le-of-suc-le-suc, not-suc-le-zero, le-step, lt-suc-self}
 use native.Mathlib.Omega.{arith}
-use Rattle.tableau.proofs.Tests.{one-of}
+use Rattle.sets.proofs.Tests.{one-of}
 
 pub any : (ℕ → Bool) → ℕ → Bool
 any p zero = false

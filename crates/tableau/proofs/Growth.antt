@@ -11,7 +11,7 @@ use Rattle.semantics.specs.Structure.{Structure}
 use Rattle.table.specs.declared.entry.Entry.{Entry}
 use Rattle.sets.specs.Set.{removed}
 use Rattle.tableau.specs.Wants.{addedIf, truthAt, wanted, rule, NoSameFact, Meets, Settled, Grows}
-use Rattle.tableau.proofs.Tests.{both-parts, one-of}
+use Rattle.sets.proofs.Tests.{both-parts, one-of}
 use Rattle.tableau.proofs.Treated.{rule-grows, rule-split}
 
 -- what is in a set with one more

@@ -1,6 +1,4 @@
 -- The laws of the tableau.
--- two tests together
-pub mod Tests
 -- what the truth of an entry says of its parts
 pub mod Rules
 -- when the rule of a wanted entry is met

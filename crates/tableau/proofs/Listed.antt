@@ -16,7 +16,7 @@ use Rattle.sets.specs.Word.{bitAt}
 use Rattle.tableau.specs.Counting.{Row, total, All, need, hi, served, spent}
 use Rattle.tableau.specs.Search.{Slot, taken, rowsOf, Each, Problem, Asks, FitRow, Met, Kept, Solvable}
 use Rattle.tableau.specs.Listed.{In, Spares, Covers}
-use Rattle.tableau.proofs.Tests.{both-parts, both-made}
+use Rattle.sets.proofs.Tests.{both-parts, both-made}
 use Rattle.tableau.proofs.Finite.{any, any-found, found-any}
 
 gain-grows : (a b : Bool) (c : ℕ) → (a ≡ true → b ≡ true) → gain a c ≤ gain b c

@@ -8,7 +8,7 @@ use Rattle.sets.specs.Set.{Within}
 use Rattle.table.specs.declared.entry.Entry.{Entry}
 use Rattle.tableau.specs.Wants.{wanted}
 use Rattle.tableau.specs.Counting.{bound, speaks, Row, total, All, Usable, Solution}
-use Rattle.tableau.proofs.Tests.{both-parts}
+use Rattle.sets.proofs.Tests.{both-parts}
 use Rattle.tableau.proofs.Bounds.{bound-made, bound-cases, bound-speaks}
 
 -- what is promised of the part

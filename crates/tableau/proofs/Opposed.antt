@@ -16,7 +16,7 @@ use Rattle.sets.specs.Set.{nothing, added}
 use Rattle.sets.specs.Word.{bitAt}
 use Rattle.tableau.specs.Counting.{Row, total, All, served, spent, lo, hi}
 use Rattle.tableau.specs.Search.{Problem, Asks, FitRow, Fit, Solvable}
-use Rattle.tableau.proofs.Tests.{one-of}
+use Rattle.sets.proofs.Tests.{one-of}
 use Rattle.tableau.proofs.Promises.{feasible-fewer}
 
 -- a row that promises i does not promise j

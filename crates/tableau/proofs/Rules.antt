@@ -14,7 +14,7 @@ use Rattle.table.proofs.Formulas.{truthOf}
 use Rattle.table.specs.Formed.{WellFormed}
 use Rattle.table.proofs.Accepted.{truth-rule}
 use Rattle.tableau.specs.Wants.{truthAt}
-use Rattle.tableau.proofs.Tests.{both-parts, either-parts}
+use Rattle.sets.proofs.Tests.{both-parts, either-parts}
 
 -- an entry's fields, with the kind k
 abbrev pub ofKind : ℕ → Entry → Entry

@@ -18,7 +18,7 @@ use Rattle.table.specs.Formed.{WellFormed}
 use Rattle.table.specs.declared.entry.Entry.{Entry}
 use Rattle.tableau.specs.Wants.{wanted, Meets, Sat}
 use Rattle.tableau.specs.Counting.{boundKind, bound, need, limit, partOf, Row, total, All, Usable, Solution}
-use Rattle.tableau.proofs.Tests.{both-parts, and-grows}
+use Rattle.sets.proofs.Tests.{both-parts, and-grows}
 use Rattle.tableau.proofs.Bounds.{bound-cases, Fits, fits}
 
 boundKind-apart : (b : Bool) → boundKind b true ≡ boundKind b false → ⊥

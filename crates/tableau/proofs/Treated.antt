@@ -6,7 +6,7 @@ use Prim.Native.Nat.{ℕ, zero, suc}
 use lib.Dec.{eqb}
 use Rattle.table.specs.declared.entry.Entry.{Entry}
 use Rattle.tableau.specs.Wants.{wanted, rule, Grows}
-use Rattle.tableau.proofs.Tests.{and-grows, or-grows}
+use Rattle.sets.proofs.Tests.{and-grows, or-grows}
 use Rattle.tableau.proofs.Rules.{ofKind}
 
 module _ (yes no pending : ℕ → Bool) (e : Entry) (i : ℕ) where

@@ -10,7 +10,7 @@ use Rattle.semantics.specs.Structure.{Structure}
 use Rattle.table.specs.declared.entry.Entry.{Entry}
 use Rattle.semantics.specs.Answer.{Answers}
 use Rattle.tableau.specs.Wants.{truthAt}
-use Rattle.tableau.proofs.Tests.{both-parts}
+use Rattle.sets.proofs.Tests.{both-parts}
 use Rattle.tableau.proofs.Rules.{constant-rule, zero-rule, fact-rule}
 use Rattle.wants.specs.declared.Wants.{Wants}
 use Rattle.wants.specs.Outcome.{wantedW, Refuted, Asked}

@@ -16,7 +16,7 @@ use Rattle.table.specs.Formulas.{depthAt, depthOf}
 use Rattle.table.proofs.Accepted.{depth-rule}
 use Rattle.table.proofs.Cases.{by-kind}
 use Rattle.tableau.specs.Wants.{addedIf, truthAt, wanted, rule, NoSameFact}
-use Rattle.tableau.proofs.Tests.{one-of}
+use Rattle.sets.proofs.Tests.{one-of}
 use Rattle.tableau.proofs.Rules.{not-rule, both-rule}
 use Rattle.tableau.proofs.Treated.{constant-met, fact-met, not-met, both-met, either-met, least-met, most-met}
 use Rattle.tableau.proofs.Growth.{put-grows, put-self, put-meets, put-settled}

@@ -16,7 +16,7 @@ use Rattle.sets.proofs.Words.{bit-high}
 use Rattle.table.specs.declared.entry.Entry.{Entry}
 use Rattle.wide.specs.Wide.{wideAt}
 use Rattle.tableau.specs.Weights.{sum}
-use Rattle.tableau.proofs.Tests.{both-parts}
+use Rattle.sets.proofs.Tests.{both-parts}
 use Rattle.counting.proofs.Measures.{lo-few, hi-few}
 use Rattle.weights.specs.Weighed.{weightAt, over, boundOf, leftWeight}
 

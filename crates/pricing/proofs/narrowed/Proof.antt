@@ -2,7 +2,7 @@
 use mathlib.Core.Bool.{true}
 use borrow.Author.Needs.{needs}
 use Rattle.sets.specs.Set.{member}
-use Rattle.tableau.proofs.Tests.{both-parts}
+use Rattle.sets.proofs.Tests.{both-parts}
 use Rattle.pricing.proofs.narrowed.Statement.{statement}
 use Rattle.pricing.proofs.narrowed.Tie as tie
 

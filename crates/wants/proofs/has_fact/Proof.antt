@@ -9,7 +9,7 @@ use Rattle.semantics.specs.Count.{count}
 use Rattle.sets.specs.Set.{member}
 use Rattle.wide.specs.Wide.{wideAt}
 use Rattle.wants.specs.Step.{isFact}
-use Rattle.wants.proofs.Members.{Left, left-all, left-without, count-removed}
+use Rattle.sets.proofs.Members.{Left, left-all, left-without, count-removed}
 use Rattle.wants.proofs.has_fact.Statement.{statement}
 use Rattle.wants.proofs.has_fact.Tie as tie
 

@@ -9,7 +9,7 @@ use lib.Dec.{eqb}
 use borrow.Author.Needs.{needs}
 use borrow.Author.Tests.{eqb-true}
 use Rattle.sets.specs.Set.{member, added}
-use Rattle.tableau.proofs.Tests.{one-of}
+use Rattle.sets.proofs.Tests.{one-of}
 use Rattle.counting.specs.Question.{problemOf, Closed}
 use Rattle.counting.proofs.question.closed.Statement.{statement}
 use Rattle.counting.proofs.question.closed.Tie as tie

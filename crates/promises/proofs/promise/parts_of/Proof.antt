@@ -6,7 +6,7 @@ use borrow.Author.Needs.{needs}
 use Rattle.semantics.specs.Count.{count}
 use Rattle.sets.specs.Set.{member}
 use Rattle.counting.specs.Question.{problemOf}
-use Rattle.wants.proofs.Members.{count-removed}
+use Rattle.sets.proofs.Members.{count-removed}
 use Rattle.promises.proofs.Promises.{promise-below}
 use Rattle.promises.proofs.Parts.{Collected, collected-none, collected-next, collected-all, part-small}
 use Rattle.promises.proofs.promise.parts_of.Statement.{statement}

@@ -6,7 +6,7 @@ use borrow.Author.Needs.{needs}
 use Rattle.semantics.specs.Count.{count}
 use Rattle.sets.specs.Set.{member}
 use Rattle.counting.specs.Question.{problemOf}
-use Rattle.wants.proofs.Members.{count-removed}
+use Rattle.sets.proofs.Members.{count-removed}
 use Rattle.promises.specs.Promise.{Partly}
 use Rattle.promises.proofs.Promises.{promise-below, part-asked, partly-none, partly-next, partly-clash, partly-all}
 use Rattle.promises.proofs.promise.promised.Statement.{statement}

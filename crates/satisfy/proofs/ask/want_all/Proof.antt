@@ -6,7 +6,7 @@ use borrow.Author.Needs.{needs}
 use Rattle.semantics.specs.Count.{count}
 use Rattle.sets.specs.Set.{member}
 use Rattle.wide.specs.Wide.{wideAt}
-use Rattle.wants.proofs.Members.{count-removed}
+use Rattle.sets.proofs.Members.{count-removed}
 use Rattle.satisfy.specs.Sets.{Taking}
 use Rattle.satisfy.proofs.Sets.{taking-none, taking-next, taking-clash, taking-asked}
 use Rattle.satisfy.proofs.ask.want_all.Statement.{statement}

@@ -24,7 +24,7 @@ use Rattle.satisfy.specs.Asking.{Solving, CountAsked}
 use Rattle.satisfy.proofs.Worlds.{solving-none, solving-next, solving-done, solved-world, unsolved, room-below, room-level, Remaining, Fails, remaining-answer, remaining-forced, remaining-second, remaining-none, case-fails, split-below}
 use Rattle.satisfy.proofs.Pairs.{within-removed, chosen-below, pair-asked, pair-opposed, pair-alone}
 use Rattle.semantics.proofs.Count.{count-le}
-use Rattle.wants.proofs.Members.{count-removed}
+use Rattle.sets.proofs.Members.{count-removed}
 use Rattle.cases.proofs.Recalling.{room-depth, from-fits, memory-from, memory-to, memory-below, memory-above, memory-over, next-same}
 use Rattle.satisfy.proofs.Calls.{ready-leaf, ready-bounded, promised-fit, counting-below, counting-deep, question-small, question-promising, question-positive, count-done, room-kept, length-behind, own-solution, own-no-solution, own-asking, promised-unfit, within-same, problem-kept}
 use Rattle.tableau.proofs.Together.{together}
@@ -32,7 +32,7 @@ use Rattle.promises.specs.Listing.{Lists, FitList, listOf}
 use Rattle.satisfy.specs.Largest.{Unkept, ListingIs}
 use Rattle.satisfy.proofs.Largest.{either-fewer, either-right, code-above, either-made, added-within, removed-within, unfit-unkept, room-placed, lists-kept, listing-same, listing-from, listing-also, reaches-none, reaches-known, listing-covers, lists-none, listed-new, guess-memory, parts-within, parts-inside, either-left, narrowed-fewer, narrowed-solvable, Branching, branching-done, branching-small, branching-fewer, branching-promising, branching-next, room-list}
 use Rattle.tableau.specs.Search.{asking, Fit}
-use Rattle.tableau.proofs.Tests.{both-parts}
+use Rattle.sets.proofs.Tests.{both-parts}
 use mathlib.Core.Logic.{⊎-elim}
 use mathlib.Core.Logic._⊎_.{inl, inr}
 use native.Mathlib.Numerals.{add-one}
@@ -72,14 +72,14 @@ use Rattle.promises.proofs.listing.also.Reads as also-reads
 use Rattle.promises.proofs.listing.also_new.Reads as also-new-reads
 use Rattle.promises.proofs.listing.blamed.Reads as blamed-reads
 use Rattle.promises.proofs.listing.blamed_behind.Reads as blamed-behind-reads
-use Rattle.promises.proofs.listing.foremost.Reads as foremost-reads
+use Rattle.sets.proofs.Set.foremost.Reads as foremost-reads
 use Rattle.promises.proofs.listing.is_short.Reads as is-short-reads
 use Rattle.promises.proofs.listing.known.Reads as known-reads
 use Rattle.promises.proofs.listing.narrowed.Reads as narrowed-reads
 use Rattle.promises.proofs.listing.prices_behind.Reads as prices-behind-reads
 use Rattle.promises.proofs.listing.selected.Reads as selected-reads
 use Rattle.promises.proofs.listing.weighs.Reads as weighs-reads
-use Rattle.promises.proofs.promise.pair.Reads as pair-reads
+use Rattle.sets.proofs.Set.pair.Reads as pair-reads
 use Rattle.promises.proofs.promise.parts_of.Reads as parts-of-reads
 use Rattle.promises.proofs.promise.promised.Reads as promised-reads
 use Rattle.promises.proofs.relation.counted.Reads as counted-reads

@@ -9,8 +9,8 @@ use lib.Dec.{eqb}
 use borrow.Author.Tests.{eq-eqb, ne-eqb}
 use Rattle.semantics.specs.Count.{count}
 use Rattle.semantics.proofs.Count.{count-mono}
 use Rattle.sets.specs.Set.{removed}
-use Rattle.tableau.proofs.Tests.{both-parts}
+use Rattle.sets.proofs.Tests.{both-parts}
 
 -- what is left of p: members of p, with all that pass the test among them
 pub record Left (p test rest : ℕ → Bool) : Type 0 where

@@ -1,7 +1,7 @@
--- `pair` meets its contract: one number after the other is put in.
+-- `sets::Set::pair` meets its contract: one number after the other is put in.
 use borrow.Author.Needs.{needs}
-use Rattle.promises.proofs.promise.pair.Statement.{statement}
-use Rattle.promises.proofs.promise.pair.Tie as tie
+use Rattle.sets.proofs.Set.pair.Statement.{statement}
+use Rattle.sets.proofs.Set.pair.Tie as tie
 
 returns : tie.Need-returns
 returns c = rw (c .with2 .ensures, c .before .with .ensures, c .before .before .empty .ensures)
