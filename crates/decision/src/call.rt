@@ -6,9 +6,15 @@ ghost use Rattle.faults.specs.declared.Verdict.the-variants.{Accepted};
 ghost use Rattle.table.specs.Check.{tableVerdict};
 ghost use Rattle.table.specs.Entry.{entryAt, size};
 ghost use Rattle.table.specs.Formulas.{depthAt};
-ghost use Rattle.decision.specs.Call.{pairVerdict, Cleared};
+ghost use Rattle.decision.specs.Call.{pairVerdict, NeededIs, Cleared};
 use faults::Fault;
 use faults::Verdict;
+
+// The words that a call on entries has to be lent, document 01's W; or why it is refused whatever it is lent.
+pub enum Needed {
+    Words(usize),
+    Refused(Fault),
+}
 
 // Makes the first n words 0. Only those that are not are written, which is quicker where most are 0.
 pub fn clear(words: &mut [u64], n: usize)
@@ -36,24 +42,38 @@ pub fn pair_depth(table: &[u8], a: usize, b: usize) -> usize
     if of_a < of_b { of_b } else { of_a }
 }
 
+// W for a call on two entries; or its first fault, whatever words it is lent.
+pub fn words_for(table: &[u8], a: usize, b: usize) -> Needed
+    ensures { λ r. ⌜ NeededIs (now (table .entry)) a b r ⌝ }
+{
+    match table::checking::check(table) {
+        Verdict::Refused(fault) => Needed::Refused(fault),
+        Verdict::Accepted => {
+            let n = table.len() / 4;
+            if n <= a {
+                return Needed::Refused(Fault::EntryNumber);
+            }
+            if n <= b {
+                return Needed::Refused(Fault::EntryNumber);
+            }
+            let depth = pair_depth(table, a, b);
+            Needed::Words(table::space::work_words(table, depth))
+        }
+    }
+}
+
 // The first fault of a call on two entries with this many lent words.
 pub fn checked(table: &[u8], a: usize, b: usize, words: usize) -> Verdict
     ensures { λ r. ⌜ r ≡ pairVerdict (now (table .entry)) a b words ⌝ }
 {
-    let of_table = table::checking::check(table);
-    let Verdict::Accepted = of_table else {
-        return of_table;
-    };
-    let n = table.len() / 4;
-    if n <= a {
-        return Verdict::Refused(Fault::EntryNumber);
+    match words_for(table, a, b) {
+        Needed::Refused(fault) => Verdict::Refused(fault),
+        Needed::Words(w) => {
+            if words < w {
+                Verdict::Refused(Fault::Space)
+            } else {
+                Verdict::Accepted
+            }
+        }
     }
-    if n <= b {
-        return Verdict::Refused(Fault::EntryNumber);
-    }
-    let depth = pair_depth(table, a, b);
-    if words < table::space::work_words(table, depth) {
-        return Verdict::Refused(Fault::Space);
-    }
-    Verdict::Accepted
 }

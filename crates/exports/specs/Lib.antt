@@ -1,2 +1,2 @@
--- the answers as numbers
-pub mod Numbers
+-- a status, and the answer at a lent place
+pub mod Status

@@ -1,75 +1,79 @@
-// The calls open to others, for C and Rust: `hurnavis.h` declares them. Answers are numbers; a result from 256 on is a
-// refusal, whose number is the result less 256. What is lent is lent as a pointer and a length.
+// The calls open to others, for C and Rust: `hurnavis.h` declares them. A call returns 0, or the number of its refusal, and
+// writes its answer to a place that is lent, which a refusal leaves as it was. A slice is a pointer and a length in C.
 ghost use mathlib.Core.Path.{_≡_};
+ghost use lib.ListN.{length};
+ghost use Rattle.faults.specs.Verdict.{refusal};
 ghost use Rattle.table.specs.Check.{tableVerdict};
-ghost use Rattle.exports.specs.Numbers.{refusalNumber, verdictNumber, decisionNumber, markingNumber, BoardNumberIs, DecisionNumberIs, MarkingNumberIs};
+ghost use Rattle.truth_table.specs.Board.{boardVerdict, BoardAfter};
+ghost use Rattle.decision.specs.Call.{pairThere, pairWork};
+ghost use Rattle.exports.specs.Status.{placed, DecisionTold, MarkTold};
 use decision::Decision;
-use faults::Fault;
-use faults::Verdict;
+use decision::call::Needed;
 use mark::Marking;
 
-fn refusal(fault: Fault) -> u32
-    ensures { λ r. ⌜ r ≡ refusalNumber fault ⌝ }
-{
-    256 + fault.number() as u32
-}
-
-fn verdict_number(verdict: Verdict) -> u32
-    ensures { λ r. ⌜ r ≡ verdictNumber verdict ⌝ }
-{
-    match verdict {
-        Verdict::Accepted => 0,
-        Verdict::Refused(fault) => refusal(fault),
-    }
-}
-
-fn decision_number(decision: Decision) -> u32
-    ensures { λ r. ⌜ r ≡ decisionNumber decision ⌝ }
-{
-    match decision {
-        Decision::Refused(fault) => refusal(fault),
-        Decision::Possible => decision.number() as u32,
-        Decision::Impossible => decision.number() as u32,
-    }
-}
-
-fn marking_number(marking: Marking) -> u32
-    ensures { λ r. ⌜ r ≡ markingNumber marking ⌝ }
-{
-    match marking {
-        Marking::Marked(mark) => mark.number() as u32,
-        Marking::Refused(fault) => refusal(fault),
-    }
-}
-
-// 0 if the table is accepted.
+// Whether the table is accepted.
 #[no_mangle]
 pub extern "C" fn hurnavis_check_table(table: &[u8]) -> u32
-    ensures { λ r. ⌜ r ≡ verdictNumber (tableVerdict (now (table .entry))) ⌝ }
+    ensures { λ r. ⌜ r ≡ refusal (tableVerdict (now (table .entry))) ⌝ }
 {
-    verdict_number(hurnavis::check_table(table))
+    hurnavis::check_table(table).number() as u32
 }
 
-// 0 if the words are filled.
+// The words that a mark of two entries has to be lent; for a decision one entry is given twice.
+#[no_mangle]
+pub extern "C" fn hurnavis_work_words(table: &[u8], model: usize, answer: usize, needed: &mut u64) -> u32
+    ensures { λ r. ⌜ (r ≡ refusal (pairThere (now (table .entry)) model answer))
+        × (now (needed .exit) ≡ placed r (pairWork (now (table .entry)) model answer) (now (needed .entry))) ⌝ }
+{
+    match hurnavis::work_words(table, model, answer) {
+        Needed::Words(w) => {
+            *needed = w as u64;
+            0
+        }
+        Needed::Refused(fault) => fault.number() as u32,
+    }
+}
+
+// Fills the words with the truth table of the structure.
 #[no_mangle]
 pub extern "C" fn hurnavis_board(table: &[u8], structure: &[u8], words: &mut [u64]) -> u32
-    ensures { λ r. ⌜ BoardNumberIs (now (table .entry)) (now (structure .entry)) (now (words .entry)) (now (words .exit)) r ⌝ }
+    ensures { λ r. ⌜ (r ≡ refusal (boardVerdict (now (table .entry)) (now (structure .entry)) (length (now (words .entry)))))
+        × BoardAfter (now (table .entry)) (now (structure .entry)) (now (words .entry))
+            (boardVerdict (now (table .entry)) (now (structure .entry)) (length (now (words .entry)))) (now (words .exit)) ⌝ }
 {
-    verdict_number(hurnavis::board(table, structure, words))
+    hurnavis::board(table, structure, words).number() as u32
 }
 
-// 1 if entry e is possible, 0 if it is impossible.
+// 1 if the entry is possible, 0 if it is impossible.
 #[no_mangle]
-pub extern "C" fn hurnavis_decide(table: &[u8], e: usize, words: &mut [u64]) -> u32
-    ensures { λ r. ⌜ DecisionNumberIs (now (table .entry)) e (now (words .entry)) (now (words .exit)) r ⌝ }
+pub extern "C" fn hurnavis_decide(table: &[u8], entry: usize, words: &mut [u64], possible: &mut u8) -> u32
+    ensures { λ r. ⌜ DecisionTold (now (table .entry)) entry (now (words .entry)) (now (words .exit))
+        (now (possible .entry)) (now (possible .exit)) r ⌝ }
 {
-    decision_number(hurnavis::decide(table, e, words))
+    match hurnavis::decide(table, entry, words) {
+        Decision::Possible => {
+            *possible = 1;
+            0
+        }
+        Decision::Impossible => {
+            *possible = 0;
+            0
+        }
+        Decision::Refused(fault) => fault.number() as u32,
+    }
 }
 
 // 0 equal, 1 narrower, 2 wider, 3 crossing.
 #[no_mangle]
-pub extern "C" fn hurnavis_mark(table: &[u8], model: usize, answer: usize, words: &mut [u64]) -> u32
-    ensures { λ r. ⌜ MarkingNumberIs (now (table .entry)) model answer (now (words .entry)) (now (words .exit)) r ⌝ }
+pub extern "C" fn hurnavis_mark(table: &[u8], model: usize, answer: usize, words: &mut [u64], mark: &mut u8) -> u32
+    ensures { λ r. ⌜ MarkTold (now (table .entry)) model answer (now (words .entry)) (now (words .exit))
+        (now (mark .entry)) (now (mark .exit)) r ⌝ }
 {
-    marking_number(hurnavis::mark(table, model, answer, words))
+    match hurnavis::mark(table, model, answer, words) {
+        Marking::Marked(found) => {
+            *mark = found.number();
+            0
+        }
+        Marking::Refused(fault) => fault.number() as u32,
+    }
 }

@@ -3,10 +3,12 @@
 ghost use mathlib.Core.Path.{_≡_};
 ghost use lib.ListN.{length};
 ghost use Rattle.table.specs.Check.{tableVerdict};
+ghost use Rattle.decision.specs.Call.{NeededIs};
 ghost use Rattle.decision.specs.Decide.{DecisionIs};
 ghost use Rattle.mark.specs.Mark.{MarkingIs};
 ghost use Rattle.truth_table.specs.Board.{boardVerdict, BoardAfter};
 use decision::Decision;
+use decision::call::Needed;
 use faults::Verdict;
 use mark::Marking;
 
@@ -15,6 +17,14 @@ pub fn check_table(table: &[u8]) -> Verdict
     ensures { λ r. ⌜ r ≡ tableVerdict (now (table .entry)) ⌝ }
 {
     table::checking::check(table)
+}
+
+// The words that a mark of two entries has to be lent, document 01's W; for a decision one entry is given twice. Refuses with a
+// number from 1 to 5, or 9 for an entry that is not there.
+pub fn work_words(table: &[u8], model: usize, answer: usize) -> Needed
+    ensures { λ r. ⌜ NeededIs (now (table .entry)) model answer r ⌝ }
+{
+    decision::call::words_for(table, model, answer)
 }
 
 // Writes the truth table of a packed structure (document 01: the board), one word for each entry of the table: bit w is 1

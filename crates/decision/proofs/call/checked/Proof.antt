@@ -1,62 +1,22 @@
--- `checked` meets its contract: the checks are made in the definition's order.
-use mathlib.Core.Path.{_≡_, sym, ap, _∙_}
-use mathlib.Core.Bool.{or-true}
+-- `checked` meets its contract: the faults that no words mend, then too few of them.
+use mathlib.Core.Path.{_≡_}
 use borrow.Author.Needs.{needs}
-use borrow.Author.Tests.{lt-ltb, le-ltb, lt-leb, le-leb}
-use Rattle.faults.specs.declared.Verdict.the-variants.{Accepted}
-use Rattle.table.specs.Check.{tableVerdict}
-use Rattle.table.specs.Space.{tableWork}
-use Rattle.decision.specs.Call.{pairWork}
-use Rattle.decision.proofs.Deciding.{accepted-small}
-use Rattle.decision.proofs.Pair.{pair-shallow}
+use borrow.Author.Tests.{lt-ltb, le-ltb}
 use Rattle.decision.proofs.call.checked.Statement.{statement}
 use Rattle.decision.proofs.call.checked.Tie as tie
 
 returns : tie.Need-returns
-returns c =
-    let found = c .enum-told2 .given .1 in
-    simp (sym (c .before .before .check .ensures) ∙ found) found
-
--- the table is accepted
-fine : (c : tie.After-enum-told) → tableVerdict (c .before .before .before .before .args .table .now) ≡ Accepted
-fine c = sym (c .before .before .check .ensures) ∙ c .enum-told .given .1
+returns c = simp (rw (c .before .fault .given .1) at (c .before .before .before .words-for .ensures))
 
 returns-2 : tie.Need-returns-2
-returns-2 c = simp (fine (c .before), le-leb _ _ (c .if1 .taken))
+returns-2 c =
+    let told = rw (c .before .before .w .given .1) at (c .before .before .before .before .words-for .ensures) in
+    simp (told .0, lt-ltb _ _ (rw (told .1) at (c .if1 .taken)))
 
 returns-3 : tie.Need-returns-3
-returns-3 c = simp (fine (c .before .before), le-leb _ _ (c .if2 .taken), or-true)
-
-pair-depth-requires : tie.Need-pair-depth-requires
-pair-depth-requires c κs = (fine (c .before .before), c .before .if1 .left, c .if2 .left)
-
-work-words-requires : tie.Need-work-words-requires
-work-words-requires c κs =
-    let ok = fine (c .before .before .before) in
-    (accepted-small _ ok, rw (c .pair-depth .ensures) (pair-shallow _ _ _ ok (c .before .before .if1 .left) (c .before .if2 .left)))
-
--- what is needed of words
-needed : (c : tie.After-work-words)
-    → c .work-words .result ≡ pairWork (c .before .before .before .before .before .before .before .before .args .table .now) (c .before .before .before .before .before .before .before .before .args .a) (c .before .before .before .before .before .before .before .before .args .b)
-needed c = c .work-words .ensures ∙ ap (tableWork (c .before .before .before .before .before .before .before .before .args .table .now)) (c .before .pair-depth .ensures)
-
-returns-4 : tie.Need-returns-4
-returns-4 c = simp (fine (c .before .before .before .before .before), lt-leb _ _ (c .before .before .before .before .if1 .left), lt-leb _ _ (c .before .before .before .if2 .left), lt-ltb _ _ (rw (needed (c .before)) at (c .if3 .taken)))
-
-returns-5 : tie.Need-returns-5
-returns-5 c = simp (fine (c .before .before .before .before .before), lt-leb _ _ (c .before .before .before .before .if1 .left), lt-leb _ _ (c .before .before .before .if2 .left), le-ltb _ _ (rw (needed (c .before)) at (c .if3 .left)))
+returns-3 c =
+    let told = rw (c .before .before .w .given .1) at (c .before .before .before .before .words-for .ensures) in
+    simp (told .0, le-ltb _ _ (rw (told .1) at (c .if1 .left)))
 
 pub checked-spec : {M : Type 1} → statement M
-checked-spec =
-    tie.close
-    (tie.spec
-    (λ c κs. search needs)
-    (λ c. search needs)
-    (λ c. search needs)
-    returns
-    returns-2
-    returns-3
-    pair-depth-requires
-    work-words-requires
-    returns-4
-    returns-5)
+checked-spec = tie.close (tie.spec (λ c κs. search needs) (λ c. search needs) (λ c. search needs) returns returns-2 returns-3)
