@@ -1,26 +1,16 @@
-/* Hurnavis from C: whether a description is satisfiable, and how an answer stands to a model.
+/* Hurnavis from C and C++: whether a description is possible, and how an answer stands to a model.
  *
- * Link libexports.a, which `rt staticlib exports` writes to target/staticlib. The archive needs memcpy and memset only.
+ * Link libhurnavis.a, which `rust/archive` writes to target/staticlib. It needs memcpy and memset only. c/example.c is a first
+ * mark to copy.
  *
- * A slice is a pointer and a length. A slice of length 0 still needs a pointer that is not null and aligned. Lent words
- * must not overlap the bytes of a table or a structure. No call keeps a pointer.
+ * Every call returns 0, or the number of its refusal. An answer goes to a place that the caller lends. A refused call leaves
+ * that place, and everything else that was lent to it, as it was.
  *
- * A result of HURNAVIS_REFUSED or more is a refusal, its number is the result less HURNAVIS_REFUSED. A refused call
- * changes nothing that was lent to it. The numbers:
- *
- *    1  the table's length is 0, over 256, or not a multiple of 4
- *    2  an entry's kind is over 7
- *    3  a field that the entry's kind does not use is not 0
- *    4  a used reference is not smaller than the entry's own number
- *    5  an entry's depth is over 63
- *    6  the structure's length is 0, over 3,072, or not a multiple of 3
- *    7  the first record is no header, a later one is, a kind is 3, or a zero bit is 1
- *    8  a world is not below the number of worlds
- *    9  an entry number is not below the number of entries
- *   10  the lent words are too few
- *
- * The first fault in this order counts: 1; then entry by entry 2, 3, 4; then 5; then 6; then record by record 7, 8; then
- * 9; then 10. A call skips what it does not take.
+ * - A slice is a pointer and a length, counted in elements. No pointer is null, also where the length is 0.
+ * - A pointer to uint64_t is aligned as that type is.
+ * - What is lent for writing (words, and the place of the answer) overlaps nothing else that the same call takes.
+ * - No call allocates, keeps a pointer or keeps any state: threads may call at the same time, each with words of its own.
+ *   The stack that a call takes does not depend on the words; of all that was tried, the most was less than 512 KiB.
  */
 
 #ifndef HURNAVIS_H
@@ -33,32 +23,76 @@
 extern "C" {
 #endif
 
-#define HURNAVIS_REFUSED 256u
+/* The refusals. The first fault in order counts: 1; then entry by entry 2, 3, 4; then 5; then 6; then record by record 7, 8;
+ * then 9; then 10. A call skips what it does not take. Later calls add refusals. */
+#define HURNAVIS_TABLE_LENGTH 1u     /* the table's length is 0, over 256 bytes, or not a multiple of 4 */
+#define HURNAVIS_KIND 2u             /* an entry's kind is over 7 */
+#define HURNAVIS_UNUSED_FIELD 3u     /* a field that the entry's kind does not use is not 0 */
+#define HURNAVIS_REFERENCE 4u        /* an entry refers to itself or to a later one */
+#define HURNAVIS_DEPTH 5u            /* an entry's depth is over 63 */
+#define HURNAVIS_STRUCTURE_LENGTH 6u /* the structure's length is 0, over 3,072 bytes, or not a multiple of 3 */
+#define HURNAVIS_RECORD 7u           /* the first record is no header, a later one is, a kind is 3, or a zero bit is 1 */
+#define HURNAVIS_WORLD 8u            /* a world is not below the number of worlds */
+#define HURNAVIS_ENTRY_NUMBER 9u     /* an entry number is not below the number of entries */
+#define HURNAVIS_SPACE 10u           /* the lent words are fewer than the call needs */
 
-/* The four marks. */
-#define HURNAVIS_EQUAL 0u    /* model and answer hold at the same worlds of every finite structure */
+/* The marks: how the answer stands to the model. */
+#define HURNAVIS_EQUAL 0u    /* they hold at the same worlds of every finite structure */
 #define HURNAVIS_NARROWER 1u /* the answer never holds without the model, the model somewhere without the answer */
 #define HURNAVIS_WIDER 2u    /* the reverse of narrower */
 #define HURNAVIS_CROSSING 3u /* each holds somewhere without the other */
 
-/* Checks a table: 4 bytes for each of its 1 to 64 entries. 0 for a table without faults. */
+/* A table is 1 to 64 entries of 4 bytes, numbered from 0. An entry is a description, and refers to earlier entries by their
+ * numbers. Facts and relations are numbered 0 to 255; what they stand for is the caller's affair. An entry's 32 bits are kind
+ * 4, name 8, first 6, second 6, grade 8, most significant first. These write the 4 bytes, for the initialiser of a table:
+ *
+ *     static const uint8_t table[] = {HURNAVIS_FACT(1), HURNAVIS_AT_LEAST(2, 7, 0)};
+ *
+ * A number that does not fit into its field makes the kind 15, so that every call refuses the table. */
+#define HURNAVIS_TRUTH HURNAVIS_ENTRY_(0, 0, 0, 0, 0)
+#define HURNAVIS_FALSITY HURNAVIS_ENTRY_(1, 0, 0, 0, 0)
+#define HURNAVIS_FACT(name) HURNAVIS_ENTRY_(2, name, 0, 0, 0)
+#define HURNAVIS_NOT(part) HURNAVIS_ENTRY_(3, 0, part, 0, 0)
+#define HURNAVIS_AND(first, second) HURNAVIS_ENTRY_(4, 0, first, second, 0)
+#define HURNAVIS_OR(first, second) HURNAVIS_ENTRY_(5, 0, first, second, 0)
+/* At least, or at most, so many ("grade") links of the relation lead to worlds where the part holds. */
+#define HURNAVIS_AT_LEAST(grade, relation, part) HURNAVIS_ENTRY_(6, relation, part, 0, grade)
+#define HURNAVIS_AT_MOST(grade, relation, part) HURNAVIS_ENTRY_(7, relation, part, 0, grade)
+
+/* Not for callers: the four bytes of an entry, and whether its fields fit. */
+#define HURNAVIS_ENTRY_(kind, name, first, second, grade) \
+    (uint8_t)(HURNAVIS_FITS_(name, first, second, grade) ? (kind) * 16u + ((name) / 16u) % 16u : 240u), \
+    (uint8_t)(((name) % 16u) * 16u + ((first) / 4u) % 16u), \
+    (uint8_t)(((first) % 4u) * 64u + (second) % 64u), \
+    (uint8_t)((grade) % 256u)
+#define HURNAVIS_FITS_(name, first, second, grade) \
+    ((name) / 256u == 0u && (first) / 64u == 0u && (second) / 64u == 0u && (grade) / 256u == 0u)
+
+/* Checks a table. The other calls check it too. */
 uint32_t hurnavis_check_table(const uint8_t *table, size_t table_len);
 
-/* Writes one word for each entry: bit w is 1 exactly when the entry holds at world w of the structure. The structure has
- * 3 bytes for each of its 1 to 1,024 records. 0 when done; words behind the number of entries are as before. */
+/* Gives the words to lend for a mark of the two entries, which are enough for a decision on either; for a decision alone, give
+ * its entry twice. They are W = 8 x (d + 1) x (2 x n + G + 4), at most 8,325,120: n is the number of entries, d the greater
+ * depth of the two (how deep "at least" and "at most" stand in each other), G the sum of (grade + 1) over all entries that are
+ * "at least" or "at most". Refuses 1 to 5 and 9. */
+uint32_t hurnavis_work_words(const uint8_t *table, size_t table_len, size_t model, size_t answer, uint64_t *words_needed);
+
+/* Writes one word for each entry: bit w is 1 exactly when the entry holds at world w of the structure. Words behind the number
+ * of entries are as before. A structure is 1 to 1,024 records of 3 bytes, most significant bit first. The first is the header:
+ * 2 bits 0, 6 bits the number of worlds less 1, 16 bits 0. A fact: 2 bits 1, world 6, name 8, 8 bits 0. A link: 2 bits 2, from
+ * 6, relation 8, to 6, 2 bits 0. Refuses 1 to 8, and 10 for fewer words than entries. */
 uint32_t hurnavis_board(const uint8_t *table, size_t table_len, const uint8_t *structure, size_t structure_len,
                         uint64_t *words, size_t words_len);
 
-/* 1 if the entry holds at some world of some finite structure, 0 if at none. The words are work space; what stands in
- * them has no influence. Needed are W = 8 x (d + 1) x (2 x n + G + 4) words, with n the number of entries, d the depth of
- * the entry, and G the sum of (grade + 1) over all entries of kind 6 or 7. After an answer the first W words are 0 and the
- * others as before. */
-uint32_t hurnavis_decide(const uint8_t *table, size_t table_len, size_t entry, uint64_t *words, size_t words_len);
+/* Gives 1 if the entry holds at some world of some finite structure, 0 if at none. The words are work space; what stands in
+ * them has no influence. After an answer the first W words are 0 and the others as before. Refuses 1 to 5, 9, and 10 for fewer
+ * than W words. */
+uint32_t hurnavis_decide(const uint8_t *table, size_t table_len, size_t entry, uint64_t *words, size_t words_len,
+                         uint8_t *possible);
 
-/* The mark of the answer's entry beside the model's. The words are as for hurnavis_decide, with the greater of the two
- * depths. */
+/* Gives the mark of the answer's entry beside the model's. Words and refusals are as for hurnavis_decide. */
 uint32_t hurnavis_mark(const uint8_t *table, size_t table_len, size_t model, size_t answer, uint64_t *words,
-                       size_t words_len);
+                       size_t words_len, uint8_t *mark);
 
 #ifdef __cplusplus
 }

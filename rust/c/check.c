@@ -1,0 +1,112 @@
+/* Tests of the header: what the entry macros write, the constant of each refusal beside a call that gives it, and that a
+ * refused call leaves the place of its answer as it was. It prints nothing; its status is 1 after a fault. */
+
+#include "hurnavis.h"
+
+#include <stdio.h>
+#include <string.h>
+
+static int faults = 0;
+
+static void expect(int holds, const char *what)
+{
+    if (!holds) {
+        fprintf(stderr, "check.c: not so: %s\n", what);
+        faults = 1;
+    }
+}
+
+#define EXPECT(condition) expect((condition), #condition)
+#define SAME(one, other) expect(sizeof one == sizeof other && memcmp(one, other, sizeof one) == 0, #one " is " #other)
+
+static const uint8_t every_kind[] = {
+    HURNAVIS_TRUTH, HURNAVIS_FALSITY, HURNAVIS_FACT(0xab), HURNAVIS_NOT(2),
+    HURNAVIS_AND(2, 3), HURNAVIS_OR(4, 1), HURNAVIS_AT_LEAST(255, 0xcd, 5), HURNAVIS_AT_MOST(0, 255, 6)
+};
+static const uint8_t every_kind_packed[] = {
+    0x00, 0, 0, 0, 0x10, 0, 0, 0, 0x2a, 0xb0, 0, 0, 0x30, 0, 0x80, 0,
+    0x40, 0, 0x83, 0, 0x50, 1, 0x01, 0, 0x6c, 0xd1, 0x40, 0xff, 0x7f, 0xf1, 0x80, 0
+};
+static const uint8_t greatest[] = {HURNAVIS_OR(62, 63)};
+static const uint8_t greatest_packed[] = {0x50, 0x0f, 0xbf, 0};
+
+static uint32_t kind_of(const uint8_t *entry)
+{
+    return entry[0] / 16u;
+}
+
+/* What does not fit is kind 15, and nothing else. */
+static void unfitting(void)
+{
+    const uint8_t name[] = {HURNAVIS_FACT(256)}, less[] = {HURNAVIS_FACT(-1)};
+    const uint8_t part[] = {HURNAVIS_NOT(64)}, second[] = {HURNAVIS_OR(0, 64)};
+    const uint8_t grade[] = {HURNAVIS_AT_MOST(256, 0, 0)};
+
+    EXPECT(kind_of(name) == 15 && kind_of(less) == 15 && kind_of(part) == 15);
+    EXPECT(kind_of(second) == 15 && kind_of(grade) == 15);
+    EXPECT(hurnavis_check_table(name, sizeof name) == HURNAVIS_KIND);
+}
+
+/* Refusal 5 needs over 64 entries, of which a table has no room. */
+static void refusals_of_tables(void)
+{
+    const uint8_t unused[] = {0, 0, 0, 1}, itself[] = {HURNAVIS_NOT(0)};
+
+    EXPECT(hurnavis_check_table(every_kind, sizeof every_kind) == 0);
+    EXPECT(hurnavis_check_table(every_kind, 0) == HURNAVIS_TABLE_LENGTH);
+    EXPECT(hurnavis_check_table(every_kind, 3) == HURNAVIS_TABLE_LENGTH);
+    EXPECT(hurnavis_check_table(unused, sizeof unused) == HURNAVIS_UNUSED_FIELD);
+    EXPECT(hurnavis_check_table(itself, sizeof itself) == HURNAVIS_REFERENCE);
+    EXPECT(HURNAVIS_DEPTH == 5);
+}
+
+/* Two worlds, a link of relation 0 from world 1 to world 0. */
+static void refusals_of_structures(void)
+{
+    static const uint8_t table[] = {HURNAVIS_TRUTH, HURNAVIS_AT_LEAST(1, 0, 0)};
+    uint8_t structure[] = {1, 0, 0, 0x81, 0, 0};
+    uint64_t words[] = {7, 7, 7};
+
+    EXPECT(hurnavis_board(table, sizeof table, structure, 4, words, 3) == HURNAVIS_STRUCTURE_LENGTH);
+    EXPECT(hurnavis_board(table, sizeof table, structure + 3, 3, words, 3) == HURNAVIS_RECORD);
+    EXPECT(hurnavis_board(table, sizeof table, structure, sizeof structure, words, 1) == HURNAVIS_SPACE);
+    structure[3] = 0x82;
+    EXPECT(hurnavis_board(table, sizeof table, structure, sizeof structure, words, 3) == HURNAVIS_WORLD);
+    EXPECT(words[0] == 7 && words[1] == 7 && words[2] == 7);
+    structure[3] = 0x81;
+    EXPECT(hurnavis_board(table, sizeof table, structure, sizeof structure, words, 3) == 0);
+    EXPECT(words[0] == 3 && words[1] == 2 && words[2] == 7);
+}
+
+/* The bytes beside the place of the answer are nobody's to write either. */
+static void places_of_answers(void)
+{
+    static const uint8_t table[] = {HURNAVIS_FACT(0), HURNAVIS_FALSITY};
+    uint64_t words[64] = {0}, needed[] = {7, 7, 7};
+    uint8_t place[] = {9, 9, 9};
+
+    EXPECT(hurnavis_work_words(table, sizeof table, 0, 2, needed + 1) == HURNAVIS_ENTRY_NUMBER && needed[1] == 7);
+    EXPECT(hurnavis_work_words(table, sizeof table, 0, 1, needed + 1) == 0 && needed[1] == 64);
+    EXPECT(needed[0] == 7 && needed[2] == 7);
+    EXPECT(hurnavis_decide(table, sizeof table, 2, words, 64, place + 1) == HURNAVIS_ENTRY_NUMBER && place[1] == 9);
+    EXPECT(hurnavis_decide(table, sizeof table, 0, words, 63, place + 1) == HURNAVIS_SPACE && place[1] == 9);
+    EXPECT(hurnavis_mark(table, sizeof table, 0, 1, words, 63, place + 1) == HURNAVIS_SPACE && place[1] == 9);
+    EXPECT(hurnavis_decide(table, sizeof table, 0, words, 64, place + 1) == 0 && place[1] == 1);
+    EXPECT(hurnavis_decide(table, sizeof table, 1, words, 64, place + 1) == 0 && place[1] == 0);
+    EXPECT(hurnavis_mark(table, sizeof table, 0, 0, words, 64, place + 1) == 0 && place[1] == HURNAVIS_EQUAL);
+    EXPECT(hurnavis_mark(table, sizeof table, 0, 1, words, 64, place + 1) == 0 && place[1] == HURNAVIS_NARROWER);
+    EXPECT(hurnavis_mark(table, sizeof table, 1, 0, words, 64, place + 1) == 0 && place[1] == HURNAVIS_WIDER);
+    EXPECT(HURNAVIS_CROSSING == 3);
+    EXPECT(place[0] == 9 && place[2] == 9);
+}
+
+int main(void)
+{
+    SAME(every_kind, every_kind_packed);
+    SAME(greatest, greatest_packed);
+    unfitting();
+    refusals_of_tables();
+    refusals_of_structures();
+    places_of_answers();
+    return faults;
+}

@@ -1,0 +1,103 @@
+//! What was compared, in numbers.
+
+use std::collections::BTreeMap;
+use std::time::{Duration, Instant};
+
+/// How often each outcome came.
+#[derive(Default)]
+pub struct Outcomes {
+    counts: BTreeMap<Result<Option<u64>, u32>, usize>,
+}
+
+impl Outcomes {
+    /// An answer, which may have no name, or the number of a refusal.
+    pub fn note(&mut self, outcome: Result<Option<u64>, u32>) {
+        *self.counts.entry(outcome).or_insert(0) += 1;
+    }
+
+    fn print(&self, call: &str) {
+        let all: usize = self.counts.values().sum();
+        if all == 0 {
+            return;
+        }
+        println!("{call}: {all} calls");
+        for (outcome, count) in &self.counts {
+            let share = 100.0 * *count as f64 / all as f64;
+            let name = match outcome {
+                Ok(None) => "answered".into(),
+                Ok(Some(answer)) => format!("answer {answer}"),
+                Err(number) => format!("refused {number}"),
+            };
+            println!("    {name:12} {count:8} {share:6.2} %");
+        }
+    }
+}
+
+/// How many inputs of a family there were, how many of them the decision calls unsatisfiable, and on how many the
+/// independent side gave up at least once.
+#[derive(Default)]
+pub struct Inputs {
+    pub all: usize,
+    pub unsatisfiable: usize,
+    pub given_up: usize,
+}
+
+#[derive(Default)]
+pub struct Tally {
+    /// The inputs of each family.
+    pub families: BTreeMap<&'static str, Inputs>,
+    pub work_words: Outcomes,
+    pub board: Outcomes,
+    pub decide: Outcomes,
+    pub mark: Outcomes,
+    pub by_decisions: Outcomes,
+    /// Answers that both sides gave, and answers on which the independent side gave up.
+    pub compared: usize,
+    pub given_up: usize,
+    /// Structures looked at, entries seen to hold, and pairs seen apart.
+    pub structures: usize,
+    pub seen_to_hold: usize,
+    pub seen_apart: usize,
+    /// The time of all library calls together, and of the slowest one since it was last taken.
+    pub in_library: Duration,
+    pub slowest: Duration,
+}
+
+impl Tally {
+    /// Runs a call of the library and notes its time.
+    pub fn timed<T>(&mut self, call: impl FnOnce() -> T) -> T {
+        let started = Instant::now();
+        let result = call();
+        let took = started.elapsed();
+        self.in_library += took;
+        self.slowest = self.slowest.max(took);
+        result
+    }
+
+    pub fn print(&self) {
+        println!(
+            "inputs by family, unsatisfiable ones, and ones where the independent side gave up:"
+        );
+        for (family, inputs) in &self.families {
+            println!(
+                "    {family:16} {:8} {:8} {:8}",
+                inputs.all, inputs.unsatisfiable, inputs.given_up
+            );
+        }
+        self.work_words.print("work_words");
+        self.board.print("board");
+        self.decide.print("decide");
+        self.mark.print("mark");
+        self.by_decisions.print("mark by two decisions");
+        let answers = self.compared + self.given_up;
+        let share = 100.0 * self.given_up as f64 / answers.max(1) as f64;
+        println!(
+            "answers compared: {}, independent side gave up: {} ({share:.2} %)",
+            self.compared, self.given_up
+        );
+        println!(
+            "small structures tried: {}, entries seen to hold: {}, pairs seen apart: {}",
+            self.structures, self.seen_to_hold, self.seen_apart
+        );
+    }
+}

@@ -1,0 +1,114 @@
+//! The refusals, with their numbers and what they say in words.
+
+use std::error::Error;
+use std::fmt;
+
+/// Why a call was refused. A refused call changes nothing that was lent to it.
+///
+/// The first fault in order counts: 1; then entry by entry 2, 3, 4; then 5; then 6; then record by record 7, 8; then 9;
+/// then 10. A call skips what it does not take. Later calls add faults.
+///
+/// ```
+/// use hurnavis::{check_table, Fault};
+///
+/// // One entry of kind 8: there is no such kind.
+/// let fault = check_table(&[0x80, 0, 0, 0]).unwrap_err();
+/// assert_eq!(fault, Fault::Kind);
+/// assert_eq!(fault.number(), 2);
+/// assert_eq!(fault.to_string(), "refused 2: an entry is of no kind that there is: its kind is over 7");
+/// ```
+#[derive(Clone, Copy, Debug, PartialEq, Eq, PartialOrd, Ord, Hash)]
+#[non_exhaustive]
+pub enum Fault {
+    /// 1: a table of length 0, over 256 bytes, or not a multiple of 4.
+    TableLength = 1,
+    /// 2: a kind from 8 to 15.
+    Kind = 2,
+    /// 3: a field that its kind does not use is not 0.
+    UnusedField = 3,
+    /// 4: a used reference is not smaller than the entry's own number.
+    Reference = 4,
+    /// 5: an entry's depth is over 63.
+    Depth = 5,
+    /// 6: a structure of length 0, over 3,072 bytes, or not a multiple of 3.
+    StructureLength = 6,
+    /// 7: a first record that is no header, a later one that is, a kind 3, or a zero bit that is 1.
+    Record = 7,
+    /// 8: a world that is not below the number of worlds.
+    World = 8,
+    /// 9: an entry number that is not below the number of entries.
+    EntryNumber = 9,
+    /// 10: fewer lent words than the call needs: [`work_words`](crate::work_words), or for the board one for each entry.
+    Space = 10,
+}
+
+/// Every fault, in the order of the numbers.
+const ALL: [Fault; 10] = [
+    Fault::TableLength,
+    Fault::Kind,
+    Fault::UnusedField,
+    Fault::Reference,
+    Fault::Depth,
+    Fault::StructureLength,
+    Fault::Record,
+    Fault::World,
+    Fault::EntryNumber,
+    Fault::Space,
+];
+
+impl Fault {
+    /// The number of the refusal, which the calls for C return.
+    #[must_use]
+    pub fn number(self) -> u32 {
+        self as u32
+    }
+
+    /// The fault with this number, if there is one.
+    pub(crate) fn from_number(number: u32) -> Option<Fault> {
+        ALL.into_iter().find(|f| f.number() == number)
+    }
+
+    fn words(self) -> &'static str {
+        match self {
+            Fault::TableLength => {
+                "the table has not 1 to 64 whole entries: its length is 0, over 256 bytes, or not a multiple of 4"
+            }
+            Fault::Kind => "an entry is of no kind that there is: its kind is over 7",
+            Fault::UnusedField => "an entry has something in a field that its kind does not use",
+            Fault::Reference => "an entry refers to itself or to a later one",
+            Fault::Depth => "an entry counts over counts more than 63 deep",
+            Fault::StructureLength => {
+                "the structure has not 1 to 1,024 whole records: its length is 0, over 3,072 bytes, or not a multiple of 3"
+            }
+            Fault::Record => {
+                "a record of the structure has a kind that cannot stand there, or a bit that is 1 and has to be 0"
+            }
+            Fault::World => "a record names a world that the structure does not have",
+            Fault::EntryNumber => "the table has no entry of the number that is asked about",
+            Fault::Space => "the lent words are fewer than the call needs",
+        }
+    }
+}
+
+impl fmt::Display for Fault {
+    fn fmt(&self, f: &mut fmt::Formatter<'_>) -> fmt::Result {
+        write!(f, "refused {}: {}", self.number(), self.words())
+    }
+}
+
+impl Error for Fault {}
+
+#[cfg(test)]
+mod tests {
+    use super::*;
+
+    #[test]
+    fn numbers_go_both_ways() {
+        for (i, fault) in ALL.into_iter().enumerate() {
+            assert_eq!(fault.number() as usize, i + 1);
+            assert_eq!(Fault::from_number(fault.number()), Some(fault));
+        }
+        assert_eq!(Fault::from_number(0), None);
+        assert_eq!(Fault::from_number(11), None);
+    }
+}
