@@ -1,8 +1,9 @@
 //! Benchmarks: the library beside the independent side, both built for release, in one run.
 //!
-//! `bench` prints a Markdown table with some words around it, `bench --markdown` the table alone, `bench --family TEXT`
-//! only the families whose name contains the text. Each size runs in a process of its own, because a call cannot be
-//! interrupted: the process ends itself when a call takes over 2 seconds, and a growing family stops there.
+//! `bench` prints a Markdown table with one row a family, the slowest of its sizes, and behind it the open cases: what takes
+//! longer than 10 ms. The rows of all sizes go to `bench.md` in the target directory. `bench --family TEXT` runs only the
+//! families whose name contains the text. Each size runs in a process of its own, because a call cannot be interrupted: the
+//! process ends itself when a call takes over 2 seconds, and a growing family stops there.
 
 mod bounded;
 mod case;
@@ -15,6 +16,7 @@ mod overlaps;
 mod parts;
 mod pigeons;
 mod planes;
+mod row;
 mod show;
 mod slow_inputs;
 mod tables;
@@ -22,8 +24,11 @@ mod worlds;
 
 use case::Measured;
 use families::Family;
+use row::Row;
 use std::env;
+use std::fs::File;
 use std::io::{self, Write};
+use std::path::PathBuf;
 use std::process::{Command, ExitCode};
 use std::thread;
 use std::time::Duration;
@@ -36,88 +41,71 @@ fn main() -> ExitCode {
     let words: Vec<&str> = words.iter().map(String::as_str).collect();
     match words[..] {
         ["--one", family, size] => one(family, size),
-        [] => all("", false),
-        ["--markdown"] => all("", true),
-        ["--family", part] => all(part, true),
+        [] => all(""),
+        ["--family", part] => all(part),
         _ => {
-            eprintln!("usage: bench [--markdown | --family TEXT]");
+            eprintln!("usage: bench [--family TEXT]");
             ExitCode::FAILURE
         }
     }
 }
 
-/// Runs every size of the families in turn.
-fn all(part: &str, bare: bool) -> ExitCode {
-    if !bare {
-        println!("Times of one call, the quickest of some; ratio: Hurnavis / independent side.\n");
-    }
-    println!("| family | size | answer | Hurnavis | independent | ratio |");
-    println!("|---|---|---|---|---|---|");
-    let mut good = true;
-    for family in families::all().filter(|f| f.name.contains(part)) {
-        good &= rows(family);
-    }
-    if good {
-        ExitCode::SUCCESS
-    } else {
-        eprintln!("the two sides disagree, or a process failed");
-        ExitCode::FAILURE
+/// Runs the families whose names contain the part.
+fn all(part: &str) -> ExitCode {
+    match measure(part) {
+        Ok(()) => ExitCode::SUCCESS,
+        Err(message) => {
+            eprintln!("{message}");
+            ExitCode::FAILURE
+        }
     }
 }
 
-/// Prints a row for each size, in a growing family up to the first that takes too long; false if something went wrong.
-fn rows(family: &Family) -> bool {
-    for size in family.sizes {
-        let Some(row) = run(family, *size) else {
-            return false;
-        };
-        let over = row.hurnavis.is_none();
-        println!("{}", row.markdown(family, *size));
-        if row.disagrees() {
-            return false;
+/// Runs every size of the families in turn, and prints what they come to.
+fn measure(part: &str) -> Result<(), String> {
+    let path = raw_rows().ok_or("no target directory for the raw rows")?;
+    let no_file = |error: io::Error| format!("{}: {error}", path.display());
+    let mut file = File::create(&path).map_err(no_file)?;
+    writeln!(file, "{}", row::RAW).map_err(no_file)?;
+    println!("{}", row::SUMMARY);
+    let mut open = Vec::new();
+    for family in families::all().filter(|f| f.name.contains(part)) {
+        let rows = rows(family)?;
+        for row in &rows {
+            writeln!(file, "{}", row.raw(family)).map_err(no_file)?;
         }
+        open.extend(rows.iter().filter(|r| r.is_open()).map(|r| r.open(family)));
+        println!("{}", row::summary(family, &rows).unwrap_or_default());
+    }
+    let limit = show::time(row::OPEN);
+    println!("\nOpen cases, over {limit}: {}\n", open.len());
+    open.iter().for_each(|line| println!("{line}"));
+    eprintln!("the rows of all sizes: {}", path.display());
+    Ok(())
+}
+
+/// Beside the directory of the program, which is the target directory's.
+fn raw_rows() -> Option<PathBuf> {
+    let program = env::current_exe().ok()?;
+    Some(program.parent()?.parent()?.join("bench.md"))
+}
+
+/// A row for each size, in a growing family up to the first that takes too long.
+fn rows(family: &Family) -> Result<Vec<Row>, String> {
+    let mut rows = Vec::new();
+    for size in family.sizes {
+        let at = format!("{}, {} {size}", family.name, family.size);
+        let row = run(family, *size).ok_or(format!("{at}: the process failed"))?;
+        if row.disagrees() {
+            return Err(format!("{at}: the two sides disagree"));
+        }
+        let over = row.hurnavis.is_none();
+        rows.push(row);
         if over && family.grows {
             break;
         }
     }
-    true
-}
-
-/// What one size gave on each side; nothing where a side took too long or gave up.
-struct Row {
-    hurnavis: Option<Measured>,
-    independent: Option<Measured>,
-}
-
-impl Row {
-    fn disagrees(&self) -> bool {
-        match (&self.hurnavis, &self.independent) {
-            (Some(one), Some(other)) => one.answer != other.answer,
-            _ => false,
-        }
-    }
-
-    fn markdown(&self, family: &Family, size: usize) -> String {
-        let known = self.hurnavis.as_ref().or(self.independent.as_ref());
-        let answer = known.map_or("unknown", |m| m.answer.as_str());
-        let ratio = match (&self.hurnavis, &self.independent) {
-            (Some(one), Some(other)) => show::ratio(one.time, other.time),
-            _ => "".into(),
-        };
-        format!(
-            "| {} | {} {size} | {answer} | {} | {} | {ratio} |",
-            family.name,
-            family.size,
-            shown(&self.hurnavis, "> 2 s"),
-            shown(&self.independent, "gives up"),
-        )
-    }
-}
-
-fn shown(measured: &Option<Measured>, otherwise: &str) -> String {
-    measured
-        .as_ref()
-        .map_or(otherwise.into(), |m| show::time(m.time))
+    Ok(rows)
 }
 
 /// Measures one size in a process of its own.
@@ -132,6 +120,7 @@ fn run(family: &Family, size: usize) -> Option<Row> {
     }
     let text = String::from_utf8(output.stdout).ok()?;
     Some(Row {
+        size,
         hurnavis: read(&text, "hurnavis"),
         independent: read(&text, "independent"),
     })
