@@ -1,7 +1,7 @@
 //! Links the archive libhurnavis.a that `rust/archive` writes, or the one in the directory HURNAVIS_LIB_DIR.
 
 use std::env;
-use std::path::PathBuf;
+use std::path::{Path, PathBuf};
 
 fn main() {
     let dir = archive_dir();
@@ -18,12 +18,18 @@ fn main() {
     println!("cargo::rustc-link-lib=static=hurnavis");
 }
 
-/// An absolute path, so that it means the same to everybody who reads it; one that is given is taken from the package's directory.
+/// An absolute path, so that it means the same to everybody who reads it. Where a given one is not, it starts at the package.
 fn archive_dir() -> PathBuf {
-    let given = env::var_os("HURNAVIS_LIB_DIR").map(PathBuf::from);
-    let dir = given.unwrap_or_else(|| PathBuf::from("../../target/staticlib"));
-    let dir = package_dir().join(dir);
-    dir.canonicalize().unwrap_or(dir)
+    let package = package_dir();
+    match env::var_os("HURNAVIS_LIB_DIR") {
+        Some(dir) if !dir.is_empty() => package.join(dir),
+        _ => repository(&package).join("target/staticlib"),
+    }
+}
+
+/// The package stands in `rust/hurnavis`.
+fn repository(package: &Path) -> &Path {
+    package.ancestors().nth(2).unwrap_or(package)
 }
 
 /// Read when the script runs: a path compiled in would follow a copied target directory to the tree it came from.

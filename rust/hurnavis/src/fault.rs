@@ -15,7 +15,7 @@ use std::fmt;
 /// let fault = check_table(&[0x80, 0, 0, 0]).unwrap_err();
 /// assert_eq!(fault, Fault::Kind);
 /// assert_eq!(fault.number(), 2);
-/// assert_eq!(fault.to_string(), "refused 2: an entry is of no kind that there is: its kind is over 7");
+/// assert_eq!(fault.to_string(), "refused 2: an entry's kind is over 7, and there are only 0 to 7");
 /// ```
 #[derive(Clone, Copy, Debug, PartialEq, Eq, PartialOrd, Ord, Hash)]
 #[non_exhaustive]
@@ -71,20 +71,20 @@ impl Fault {
     fn words(self) -> &'static str {
         match self {
             Fault::TableLength => {
-                "the table has not 1 to 64 whole entries: its length is 0, over 256 bytes, or not a multiple of 4"
+                "the table does not have 1 to 64 whole entries: its length is 0, over 256 bytes, or not a multiple of 4"
             }
-            Fault::Kind => "an entry is of no kind that there is: its kind is over 7",
+            Fault::Kind => "an entry's kind is over 7, and there are only 0 to 7",
             Fault::UnusedField => "an entry has something in a field that its kind does not use",
             Fault::Reference => "an entry refers to itself or to a later one",
-            Fault::Depth => "an entry counts over counts more than 63 deep",
+            Fault::Depth => "an entry's depth, how often counts stand in counts, is over 63",
             Fault::StructureLength => {
-                "the structure has not 1 to 1,024 whole records: its length is 0, over 3,072 bytes, or not a multiple of 3"
+                "the structure does not have 1 to 1,024 whole records: its length is 0, over 3,072 bytes, or not a multiple of 3"
             }
             Fault::Record => {
                 "a record of the structure has a kind that cannot stand there, or a bit that is 1 and has to be 0"
             }
             Fault::World => "a record names a world that the structure does not have",
-            Fault::EntryNumber => "the table has no entry of the number that is asked about",
+            Fault::EntryNumber => "the table has no entry with the number that the call asks about",
             Fault::Space => "the lent words are fewer than the call needs",
         }
     }
