@@ -10,7 +10,7 @@
  * - A pointer to uint64_t is aligned as that type is.
  * - What is lent for writing (words, and the place of the answer) overlaps nothing else that the same call takes.
  * - No call allocates, keeps a pointer or keeps any state: threads may call at the same time, each with words of its own.
- *   The stack that a call takes does not depend on the words; of all that was tried, the most was less than 512 KiB.
+ *   Of the stack, no call that was tried took 512 KiB.
  */
 
 #ifndef HURNAVIS_H

@@ -90,3 +90,33 @@ pub fn worked(
     }
     untouched(call, &before[needed..], &after[needed..])
 }
+
+#[cfg(test)]
+mod tests {
+    use super::*;
+
+    #[test]
+    fn a_refusal_leaves_the_place_of_the_answer() {
+        assert_eq!(outcome("call", 0, 9u8, 1), Ok(Ok(1)));
+        assert_eq!(outcome("call", 4, 9u8, 9), Ok(Err(4)));
+        assert!(outcome("call", 4, 9u8, 0).is_err());
+    }
+
+    #[test]
+    fn a_refusal_is_the_number_itself() {
+        assert_eq!(same("call", Err(2), Err(Fault::Kind)), Ok(()));
+        assert!(same("call", Err(258), Err(Fault::Kind)).is_err());
+        assert!(same("call", Ok(2), Err(Fault::Kind)).is_err());
+        assert!(same("call", Ok(0), Ok(1)).is_err());
+    }
+
+    #[test]
+    fn words_are_cleared_after_an_answer_only() {
+        let (before, cleared) = ([7, 7, 7], [0, 0, 7]);
+        assert_eq!(worked("call", Ok(1), 2, &before, &cleared), Ok(()));
+        assert!(worked("call", Ok(1), 3, &before, &cleared).is_err());
+        assert!(worked("call", Ok(1), 1, &before, &cleared).is_err());
+        assert_eq!(worked("call", Err(9), 2, &before, &before), Ok(()));
+        assert!(worked("call", Err(9), 2, &before, &cleared).is_err());
+    }
+}
