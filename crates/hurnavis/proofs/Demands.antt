@@ -4,9 +4,11 @@ use mathlib.Core.Logic.{_↔_, by-cases}
 use mathlib.Core.Bool.{true, true≢false}
 use mathlib.Core.List.{List}
 use Prim.Native.Nat.{ℕ, _<_}
+use native.Mathlib.Nat.{le-of-eq}
 use native.Mathlib.Decide.{decLt}
 use native.Mathlib.Omega.{arith}
 use lib.ListN.{length, getD}
+use borrow.Author.Tests.{le-ltb}
 use Rattle.semantics.specs.Truth.{truth, Satisfiable}
 use Rattle.sets.specs.Word.{bitAt}
 use Rattle.sets.proofs.Words.{bit-word, bit-word-high}
@@ -21,7 +23,8 @@ use Rattle.table.specs.Check.{tableVerdict}
 use Rattle.structure.specs.Read.{structureOf}
 use Rattle.truth_table.specs.Board.{boardVerdict, Filled, BoardAfter}
 use Rattle.decision.specs.declared.Decision.{Decision}
-use Rattle.decision.specs.Call.{pairVerdict}
+use Rattle.decision.specs.declared.call.Needed.{Needed}
+use Rattle.decision.specs.Call.{pairThere, pairVerdict, NeededIs, refusal as wordsRefusal}
 use Rattle.decision.specs.Decide.{numberOf as decided, refusal as decisionRefusal, decideVerdict, DecisionIs}
 use Rattle.mark.specs.declared.Mark.{Mark}
 use Rattle.mark.specs.declared.Marking.{Marking}
@@ -66,6 +69,16 @@ module _ (bytes packed before after : List ℕ) (r : Verdict) (is : r ≡ boardV
       (λ (g : ¬ (w < structureOf packed .worlds)).
       let unset = word-is ∙ bit-word-high test (omega arith) in
       (λ set. absurd (true≢false (sym set ∙ unset)), λ holds. absurd (g (holds .0))))
+
+-- Demand 1, of the words that a call needs.
+module _ (bytes : List ℕ) (model answer : ℕ) where
+  pub words-refused : (r : Needed) → NeededIs bytes model answer r → Refuses (pairThere bytes model answer) (wordsRefusal r)
+  words-refused (Needed.Words w) is = rw (is .0) (first-fault Accepted)
+  words-refused (Needed.Refused g) is = rw is (first-fault (Refused g))
+
+  -- with so many words neither a mark nor, for one entry twice, a decision is refused for want of them
+  pub words-enough : (w : ℕ) → NeededIs bytes model answer (Needed.Words w) → pairVerdict bytes model answer w ≡ Accepted
+  words-enough w is = simp (is .0, le-ltb _ _ (le-of-eq (sym (is .1))))
 
 -- Demands 1 and 3, of the decision.
 module _ (bytes : List ℕ) (e : ℕ) (before after : List ℕ) where
