@@ -1,8 +1,9 @@
 -- A loop that stops at the first refusal finds the verdict of the whole row: what was refused stays refused.
-use mathlib.Core.Path.{_≡_, refl}
+use mathlib.Core.Path.{_≡_, refl, sym, _∙_}
 use mathlib.Core.Logic.{⊎-elim}
 use mathlib.Core.Bool.{Bool, true, false, _||_}
-use Prim.Native.Nat.{ℕ, zero, suc, _<_}
+use Prim.Native.Nat.{ℕ, zero, suc, _+_, _<_, _≤_, zero-le}
+use native.Mathlib.Numerals.{add-one}
 use native.Mathlib.Omega.{arith}
 use native.Mathlib.Nat.{eq-or-lt-of-le, le-of-suc-le-suc, not-suc-le-zero}
 use Rattle.faults.specs.declared.Fault.{Fault}
@@ -10,19 +11,36 @@ use Rattle.faults.specs.declared.Verdict.{Verdict}
 use Rattle.faults.specs.declared.Verdict.the-variants.{Accepted, Refused}
 use Rattle.faults.specs.Verdict.{refuseIf, andThen, each}
 
--- one more that accepts
-pub each-more : (v : ℕ → Verdict) (n : ℕ) → each v n ≡ Accepted → v n ≡ Accepted → each v (suc n) ≡ Accepted
-unfolding each
-each-more v n before here = rw (before, here) refl
-
 -- a refusal stays the verdict, however many follow
-pub each-refused : (v : ℕ → Verdict) (i n : ℕ) (f : Fault) → each v i ≡ Accepted → v i ≡ Refused f → i < n → each v n ≡ Refused f
+each-refused : (v : ℕ → Verdict) (i n : ℕ) (f : Fault) → each v i ≡ Accepted → v i ≡ Refused f → i < n → each v n ≡ Refused f
 unfolding each
 each-refused v i zero f before here h = absurd (not-suc-le-zero h)
 each-refused v i (suc n) f before here h =
     ⊎-elim (λ (e : i ≡ n). rw (← e, before, here) refl)
     (λ (l : i < n). rw (each-refused v i n f before here l) refl)
     (eq-or-lt-of-le (le-of-suc-le-suc h))
+
+-- the invariant of such a loop: the first i of n checks were passed, and accept
+pub record Passed (v : ℕ → Verdict) (n i : ℕ) : Type 0 where
+  pub within : i ≤ n
+  pub accepted : each v i ≡ Accepted
+
+pub none-passed : (v : ℕ → Verdict) (n : ℕ) → Passed v n 0
+unfolding each
+none-passed v n = record { within = zero-le; accepted = refl }
+
+module _ {v : ℕ → Verdict} {n i : ℕ} (passed : Passed v n i) where
+  -- r is what check i finds: where it accepts, one more is passed, and where it refuses, r is the verdict of all
+  module _ (h : i < n) {r : Verdict} (found : r ≡ v i) where
+    pub one-more : r ≡ Accepted → Passed v n (i + 1)
+    unfolding each
+    one-more ok = record { within = omega arith; accepted = rw (add-one i, passed .accepted, sym found) ok }
+
+    pub refused-here : {f : Fault} → r ≡ Refused f → r ≡ each v n
+    refused-here {f} e = e ∙ sym (each-refused v i n f (passed .accepted) (sym found ∙ e) h)
+
+  pub all-passed : n ≤ i → Accepted ≡ each v n
+  all-passed h = let e : i ≡ n = omega arith in sym (rw e at (passed .accepted))
 
 -- a test that accepts found nothing
 pub not-refused : (b : Bool) (f : Fault) → refuseIf b f ≡ Accepted → b ≡ false
@@ -33,6 +51,11 @@ not-refused false f e = refl
 pub neither : (a b : Bool) → a || b ≡ false → (a ≡ false) × (b ≡ false)
 neither true b e = let z : _≡_ {A = ℕ} 0 1 = cc in absurd (omega arith)
 neither false b e = (refl, e)
+
+-- of three checks in a row it does not matter which two are taken together
+pub then-then : (a b c : Verdict) → andThen (andThen a b) c ≡ andThen a (andThen b c)
+then-then Accepted b c = refl
+then-then (Refused f) b c = refl
 
 -- two checks in a row accept only where both do
 pub both-accepted : (a b : Verdict) → andThen a b ≡ Accepted → (a ≡ Accepted) × (b ≡ Accepted)

@@ -1,27 +1,21 @@
 -- `check_records` meets its contract. The invariant: the records passed are accepted.
-use mathlib.Core.Path.{_≡_, refl, sym, _∙_}
-use Prim.Native.Nat.{_-_, _≤_}
-use native.Mathlib.Numerals.{add-one}
-use native.Mathlib.Omega.{arith}
+use mathlib.Core.Path.{_≡_}
+use Prim.Native.Nat.{_-_}
 use borrow.Author.Needs.{needs}
-use Rattle.faults.specs.declared.Verdict.the-variants.{Accepted}
-use Rattle.faults.specs.Verdict.{each}
-use Rattle.faults.proofs.Each.{each-more, each-refused}
+use Rattle.faults.proofs.Each.{Passed, none-passed, one-more, refused-here, all-passed}
 use Rattle.structure.specs.Record.{recordAt, worldsOf}
 use Rattle.structure.specs.Read.{stated}
-use Rattle.structure.specs.Check.{recordVerdict, recordsVerdict}
+use Rattle.structure.specs.Check.{recordVerdict}
 use Rattle.structure.proofs.checking.check_records.Statement.{statement}
 use Rattle.structure.proofs.checking.check_records.Tie as tie
 
 abbrev Inv-loop : tie.InvT-loop
-Inv-loop bytes n worlds i₀ i = (i ≤ n) × (recordsVerdict (recordAt bytes) i ≡ Accepted)
+Inv-loop bytes n worlds i₀ i =
+    let row = recordAt bytes in
+    Passed (λ j. recordVerdict (row j) j (worldsOf row)) n i
 
 abbrev μ-loop : tie.MeasureT-loop
 μ-loop bytes n worlds i₀ i = n - i
-
-loop-holds : tie.Need-loop-holds Inv-loop μ-loop
-unfolding each
-loop-holds c = (search needs, refl)
 
 -- what the call says of record i
 here : (c : tie.After-check-record Inv-loop μ-loop)
@@ -32,20 +26,10 @@ unfolding stated
 here c = cc
 
 returns : tie.Need-returns Inv-loop μ-loop
-returns c =
-    let found = c .enum-told2 .given in
-    let l = c .before .before .before .before .before .loop in
-    found .1 ∙ sym (each-refused _ (l .i) _ (found .0 .0) (l .inv .1) (sym (here (c .before .before)) ∙ found .1) (search needs))
+returns c = refused-here (c .before .before .before .before .before .loop .inv) (search needs) (here (c .before .before)) (c .enum-told2 .given .1)
 
 loop-again : tie.Need-loop-again Inv-loop μ-loop
-loop-again c =
-    let l = c .before .before .before .before .before .loop in
-    (search needs, rw (add-one (l .i)) (each-more _ (l .i) (l .inv .1) (sym (here (c .before .before)) ∙ c .enum-told .given .1)))
-
-returns-2 : tie.Need-returns-2 Inv-loop μ-loop
-returns-2 c =
-    let e : c .before .loop .i ≡ c .before .before .before .before .args .n = omega arith in
-    sym (rw e at (c .before .loop .inv .1))
+loop-again c = one-more (c .before .before .before .before .before .loop .inv) (search needs) (here (c .before .before)) (c .enum-told .given .1)
 
 pub check-records-spec : {M : Type 1} → statement M
 check-records-spec =
@@ -54,7 +38,7 @@ check-records-spec =
     Inv-loop
     μ-loop
     (λ c κs. search needs)
-    loop-holds
+    (λ c. none-passed _ _)
     (λ c κs. search needs)
     (λ c κs. search needs)
     (λ c. search needs)
@@ -63,4 +47,4 @@ check-records-spec =
     (λ c. search needs)
     (λ c. search needs)
     loop-again
-    returns-2)
+    (λ c. all-passed (c .before .loop .inv) (search needs)))
