@@ -2,3 +2,5 @@
 pub mod Zeros
 -- lists that are filled from the front
 pub mod Filling
+-- numbers that bytes spell
+pub mod Bytes

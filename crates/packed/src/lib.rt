@@ -1,7 +1,8 @@
 // What packed tables and packed structures share: the bytes that their words are made of, and words read without a bound.
 ghost use mathlib.Core.Path.{_≡_};
-ghost use Prim.Native.Nat.{_<_};
+ghost use Prim.Native.Nat.{_*_, _^_, _<_, _≤_};
 ghost use lib.ListN.{getD};
+ghost use Rattle.packed.specs.Bytes.{bigEndian};
 
 // The byte at a place, 0 past the end, in a type with room for the word that it is part of.
 pub fn byte_at(bytes: &[u8], at: usize) -> u32
@@ -12,6 +13,25 @@ pub fn byte_at(bytes: &[u8], at: usize) -> u32
     } else {
         0
     }
+}
+
+// The number that the i-th `width` bytes spell, the first byte highest. A byte past the end counts as 0.
+pub fn big_endian(bytes: &[u8], width: usize, i: usize) -> u64
+    requires { ⌜ (1 ≤ width) × (width ≤ 8) ⌝ }
+    ensures { λ r. ⌜ (r ≡ bigEndian (now (bytes .entry)) (width * i) width) × (r < 256 ^ width) ⌝ }
+{
+    // Past this bound every byte is missing, and width * i might not fit.
+    if bytes.len() / width < i {
+        return 0;
+    }
+    let at = width * i;
+    let mut number: u64 = 0;
+    let mut k = 0;
+    while k < width {
+        number = number * 256 + byte_at(bytes, at + k) as u64;
+        k += 1;
+    }
+    number
 }
 
 // The 64-bit word at a place, 0 past the end.

@@ -1,7 +1,8 @@
 -- The packed records of a structure: document 01, "The drawn build", where a structure is called a build.
 use mathlib.Core.List.{List}
-use Prim.Native.Nat.{ℕ, _+_, _*_, _/_, _^_}
-use lib.ListN.{length, getD}
+use Prim.Native.Nat.{ℕ, _+_, _*_, _/_}
+use lib.ListN.{length}
+use Rattle.packed.specs.Bytes.{bigEndian}
 use Rattle.packed.specs.Field.{field}
 use Rattle.structure.specs.declared.record.Record.{Record}
 
@@ -13,7 +14,7 @@ recordOf word =
 
 -- the i-th three bytes as a 24-bit word, most significant first
 unfoldable pub tripleAt : List ℕ → ℕ → ℕ
-tripleAt bytes i = getD bytes (3 * i) 0 * 2 ^ 16 + getD bytes (3 * i + 1) 0 * 2 ^ 8 + getD bytes (3 * i + 2) 0
+tripleAt bytes i = bigEndian bytes (3 * i) 3
 
 -- record i of the structure that the bytes pack
 abbrev pub recordAt : List ℕ → ℕ → Record

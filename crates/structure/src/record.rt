@@ -2,7 +2,7 @@
 ghost use mathlib.Core.Path.{_≡_};
 ghost use Prim.Native.Nat.{_<_};
 ghost use Rattle.structure.specs.Record.{recordOf, tripleAt, recordAt};
-use packed::byte_at;
+use packed::big_endian;
 
 // The fields of a record, the same for its three kinds. A header's world is the number of worlds less 1, and a link's is
 // the world that it leads from; a name is a fact's or a relation's.
@@ -33,12 +33,7 @@ impl Record {
 fn triple_at(bytes: &[u8], i: usize) -> u32
     ensures { λ r. ⌜ r ≡ tripleAt (now (bytes .entry)) i ⌝ }
 {
-    // Past this bound all three bytes are missing, and 3 * i might not fit.
-    if bytes.len() / 3 < i {
-        return 0;
-    }
-    let at = 3 * i;
-    byte_at(bytes, at) * 65536 + byte_at(bytes, at + 1) * 256 + byte_at(bytes, at + 2)
+    big_endian(bytes, 3, i) as u32
 }
 
 // Record i of a structure. Its worlds have six bits.

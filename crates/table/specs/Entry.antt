@@ -1,7 +1,8 @@
 -- The packed entries of a table: document 01, "The description table".
 use mathlib.Core.List.{List}
-use Prim.Native.Nat.{ℕ, _+_, _*_, _/_, _^_}
-use lib.ListN.{length, getD}
+use Prim.Native.Nat.{ℕ, _*_, _/_}
+use lib.ListN.{length}
+use Rattle.packed.specs.Bytes.{bigEndian}
 use Rattle.packed.specs.Field.{field}
 use Rattle.table.specs.declared.entry.Entry.{Entry}
 
@@ -12,8 +13,7 @@ entryOf word =
 
 -- the i-th four bytes as a 32-bit word, most significant first
 unfoldable pub wordAt : List ℕ → ℕ → ℕ
-wordAt bytes i =
-    getD bytes (4 * i) 0 * 2 ^ 24 + getD bytes (4 * i + 1) 0 * 2 ^ 16 + getD bytes (4 * i + 2) 0 * 2 ^ 8 + getD bytes (4 * i + 3) 0
+wordAt bytes i = bigEndian bytes (4 * i) 4
 
 -- entry i of the table that the bytes pack
 abbrev pub entryAt : List ℕ → ℕ → Entry

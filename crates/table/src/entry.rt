@@ -1,7 +1,7 @@
 // Entries: the packed 32-bit word, and its fields.
 ghost use mathlib.Core.Path.{_≡_};
 ghost use Rattle.table.specs.Entry.{entryOf, wordAt, entryAt};
-use packed::byte_at;
+use packed::big_endian;
 
 // The fields of an entry. A field that its kind does not use means nothing.
 pub struct Entry {
@@ -31,15 +31,7 @@ impl Entry {
 pub fn word_at(table: &[u8], i: usize) -> u32
     ensures { λ r. ⌜ r ≡ wordAt (now (table .entry)) i ⌝ }
 {
-    // Past this bound all four bytes are missing, and 4 * i might not fit.
-    if table.len() / 4 < i {
-        return 0;
-    }
-    let at = 4 * i;
-    byte_at(table, at) * 16777216
-        + byte_at(table, at + 1) * 65536
-        + byte_at(table, at + 2) * 256
-        + byte_at(table, at + 3)
+    big_endian(table, 4, i) as u32
 }
 
 // Entry i of a table.

@@ -6,6 +6,7 @@ use Rattle.semantics.specs.Formula.{Formula, verum, falsum, fact, neg, conj, at
 use Rattle.semantics.specs.Count.{count}
 use Rattle.semantics.specs.Structure.{Structure}
 use Rattle.semantics.specs.Truth.{truth}
+use Rattle.packed.specs.Bytes.{bigEndian}
 use Rattle.sets.specs.Word.{word}
 use Rattle.structure.specs.Record.{tripleAt}
 use Rattle.structure.specs.Read.{some, stated, structureOf}
@@ -45,5 +46,5 @@ examples =
     ∷ []
 
 pub m1-to-m9 : map (λ e. word (truth build (e .formula)) (build .worlds)) examples ≡ map (λ e. e .board) examples
-unfolding build example examples truth count word some stated tripleAt
+unfolding build example examples truth count word some stated tripleAt bigEndian
 m1-to-m9 = refl

@@ -1,0 +1,18 @@
+-- Numbers that bytes spell: past the end there is 0, and one byte more than a bound allows for makes the bound one byte greater.
+use mathlib.Core.Path.{_≡_, refl}
+use mathlib.Core.List.{List}
+use Prim.Native.Nat.{ℕ, zero, suc, _+_, _*_, _^_, _≤_, _<_}
+use native.Mathlib.Nat.{pow-suc}
+use native.Mathlib.Omega.{arith}
+use lib.ListN.{length, getD, List·getD-eq-default}
+use Rattle.packed.specs.Bytes.{bigEndian}
+
+pub past-end : (bytes : List ℕ) (at width : ℕ) → length bytes ≤ at → bigEndian bytes at width ≡ 0
+unfolding bigEndian
+past-end bytes at zero h = refl
+past-end bytes at (suc width) h =
+    let missing : getD bytes (at + width) 0 ≡ 0 = List·getD-eq-default bytes 0 (omega arith) in
+    omega (arith, past-end bytes at width h)
+
+pub byte-more : (width : ℕ) {x b : ℕ} → x < 256 ^ width → b < 256 → x * 256 + b < 256 ^ suc width
+byte-more width h l = rw pow-suc (omega arith)
