@@ -37,9 +37,7 @@ pub fn pair_depth(table: &[u8], a: usize, b: usize) -> usize
 {
     let n = table.len() / 4;
     let depth = table::depth::depths(table, n);
-    let of_a = depth[a] as usize;
-    let of_b = depth[b] as usize;
-    if of_a < of_b { of_b } else { of_a }
+    numbers::max(depth[a], depth[b]) as usize
 }
 
 // W for a call on two entries; or its first fault, whatever words it is lent.

@@ -15,7 +15,7 @@ use faults::Verdict;
 // The longest table, in bytes, and the greatest depth.
 const MAX_BYTES: usize = 256;
 
-const MAX_DEPTH: u32 = 63;
+const MAX_DEPTH: u64 = 63;
 
 // The bits of a 32-bit entry that each kind uses: the kind's own, and those of the fields that it uses.
 const USED: [u32; 8] = [

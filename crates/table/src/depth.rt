@@ -1,25 +1,20 @@
 // Depths of a table's entries.
 ghost use mathlib.Core.Path.{_≡_};
-ghost use Prim.Native.Nat.{_<_, _≤_, max};
+ghost use Prim.Native.Nat.{_≤_};
 ghost use Rattle.table.specs.Entry.{entryAt};
 ghost use Rattle.table.specs.Formulas.{depthOf, Depths};
 use crate::entry;
-
-fn greater(a: u32, b: u32) -> u32
-    ensures { λ r. ⌜ r ≡ max a b ⌝ }
-{
-    if a < b { b } else { a }
-}
+use numbers::max;
 
 // The depth of an entry of a kind, given those of its first and second part.
-fn depth_of(first: u32, second: u32, kind: u32) -> u32
+fn depth_of(first: u64, second: u64, kind: u32) -> u64
     requires { ⌜ first ≤ 64 ⌝ }
     ensures { λ r. ⌜ r ≡ depthOf first second kind ⌝ }
 {
     match kind {
         3 => first,
-        4 => greater(first, second),
-        5 => greater(first, second),
+        4 => max(first, second),
+        5 => max(first, second),
         6 => first + 1,
         7 => first + 1,
         _ => 0,
@@ -27,11 +22,11 @@ fn depth_of(first: u32, second: u32, kind: u32) -> u32
 }
 
 // The depth of each of the first n entries, and 0 behind them.
-pub fn depths(table: &[u8], n: usize) -> [u32; 64]
+pub fn depths(table: &[u8], n: usize) -> [u64; 64]
     requires { ⌜ n ≤ 64 ⌝ }
     ensures { λ r. ⌜ Depths (entryAt (now (table .entry))) n r ⌝ }
 {
-    let mut depth = [0u32; 64];
+    let mut depth = [0u64; 64];
     let mut i = 0;
     while i < n {
         let e = entry::entry_at(table, i);
