@@ -1,4 +1,4 @@
--- Numbers that bytes spell: past the end there is 0, and one byte more than a bound allows for makes the bound one byte greater.
+-- Numbers that bytes spell, for every width: past the end they are 0, and with each byte the bound is 256 times greater.
 use mathlib.Core.Path.{_≡_, refl}
 use mathlib.Core.List.{List}
 use Prim.Native.Nat.{ℕ, zero, suc, _+_, _*_, _^_, _≤_, _<_}

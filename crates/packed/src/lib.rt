@@ -1,10 +1,10 @@
-// What packed tables and packed structures share: the bytes that their words are made of, and words read without a bound.
+// What packed tables and packed structures share: the numbers that their bytes spell, and words read without a bound.
 ghost use mathlib.Core.Path.{_≡_};
 ghost use Prim.Native.Nat.{_*_, _^_, _<_, _≤_};
 ghost use lib.ListN.{getD};
 ghost use Rattle.packed.specs.Bytes.{bigEndian};
 
-// The byte at a place, 0 past the end, in a type with room for the word that it is part of.
+// The byte at a place, 0 past the end.
 pub fn byte_at(bytes: &[u8], at: usize) -> u32
     ensures { λ r. ⌜ (r ≡ getD (now (bytes .entry)) at 0) × (r < 256) ⌝ }
 {

@@ -1,7 +1,7 @@
--- `big_endian` meets its contract. The invariant: the number is what the bytes passed spell, and has no more bytes than they.
+-- `big_endian` meets its contract. The invariant: the number is what the bytes passed spell, and fits as many bytes.
 use mathlib.Core.Path.{_≡_, refl, sym}
-use Prim.Native.Nat.{ℕ, _*_, _/_, _^_, _-_, _≤_, _<_}
-use native.Mathlib.Nat.{mul-comm, le-div-iff-mul-le, div-lt-iff-lt-mul, one-le-pow, pow-le-pow-right, lt-of-lt-of-le, le-of-suc-le-suc}
+use Prim.Native.Nat.{_*_, _^_, _-_, _≤_, _<_}
+use native.Mathlib.Nat.{mul-comm, le-div-iff-mul-le, div-lt-iff-lt-mul, one-le-pow, pow-le-pow-right, lt-of-lt-of-le}
 use native.Mathlib.Numerals.{add-one}
 use native.Mathlib.Omega.{arith}
 use lib.Dec.{lit<}
@@ -30,16 +30,15 @@ place c =
     let a = c .before .before .args in
     rw (mul-comm (a .width) (a .i)) (le-div-iff-mul-le (c .before .before .pre .0) .0 (c .if1 .left))
 
--- the bytes passed leave room for one more
-room : (k x : ℕ) → k < 8 → x < 256 ^ k → x < 2 ^ 56
-room k x h l = lt-of-lt-of-le l (pow-le-pow-right (lit< tt) (le-of-suc-le-suc h))
-
 loop-holds : tie.Need-loop-holds Inv-loop μ-loop
 unfolding bigEndian
 loop-holds c = (search needs, refl, search needs)
 
+-- the bytes passed leave room for one more
 small : (c : tie.In-loop Inv-loop μ-loop) → c .before .loop .number < 2 ^ 56
-small c = room (c .before .loop .k) _ (omega (arith, c .before .before .before .before .pre)) (c .before .loop .inv .2)
+small c =
+    let most : c .before .loop .k ≤ 7 = omega (arith, c .before .before .before .before .pre) in
+    lt-of-lt-of-le (c .before .loop .inv .2) (pow-le-pow-right (lit< tt) most)
 
 loop-again : tie.Need-loop-again Inv-loop μ-loop
 unfolding bigEndian
