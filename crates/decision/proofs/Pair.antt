@@ -7,10 +7,9 @@ use native.Mathlib.Nat.{le-refl, max-le, max-eq-left}
 use lib.Dec.{leb, ltb}
 use borrow.Author.Tests.{ltb-false, leb-false}
 use Rattle.faults.specs.declared.Fault.the-variants.{EntryNumber, Space}
-use Rattle.faults.specs.declared.Verdict.{Verdict}
-use Rattle.faults.specs.declared.Verdict.the-variants.{Accepted, Refused}
-use Rattle.faults.specs.Verdict.{refuseIf, andThen}
-use Rattle.faults.proofs.Each.{both-accepted, not-refused, neither}
+use Rattle.faults.specs.declared.Verdict.the-variants.{Accepted}
+use Rattle.faults.specs.Verdict.{refuseIf}
+use Rattle.faults.proofs.Each.{both-accepted, not-refused, neither, then-then}
 use Rattle.table.specs.Entry.{entryAt, size}
 use Rattle.table.specs.Formulas.{depthAt}
 use Rattle.table.specs.Check.{tableVerdict}
@@ -29,11 +28,6 @@ pair-met bytes a b words ok =
 
 pub pair-shallow : (bytes : List ℕ) (a b : ℕ) → tableVerdict bytes ≡ Accepted → a < size bytes → b < size bytes → max (depthAt (entryAt bytes) a) (depthAt (entryAt bytes) b) ≤ 63
 pair-shallow bytes a b ok one other = max-le (accepted-shallow bytes ok a one) (accepted-shallow bytes ok b other)
-
--- checks in a row, whichever two are taken together
-then-then : (a b c : Verdict) → andThen (andThen a b) c ≡ andThen a (andThen b c)
-then-then Accepted b c = refl
-then-then (Refused f) b c = refl
 
 either-same : (b : Bool) → b || b ≡ b
 either-same true = refl
