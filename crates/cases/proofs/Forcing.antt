@@ -24,9 +24,9 @@ use Rattle.memory.specs.declared.learnt.Ruled.{Ruled}
 use Rattle.memory.specs.Learnt.{RuledIs}
 use Rattle.wants.specs.declared.Wants.{Wants}
 use Rattle.wants.specs.declared.Outcome.{Outcome}
-use Rattle.wants.specs.Outcome.{wantedW, Asked, OutcomeIs}
+use Rattle.wants.specs.Outcome.{wantedW, Asked, OutcomeIs, Lightened}
 use Rattle.sets.proofs.Members.{count-removed}
-use Rattle.cases.specs.World.{SatW, serving, Ready, Waiting, Lightened}
+use Rattle.cases.specs.World.{SatW, serving, Ready, Waiting}
 use Rattle.cases.specs.Force.{Shown, RuledFor, Forced, ForcedIs}
 use Rattle.cases.proofs.Splitting.{inside, first-below, second-below, part-depths, cases, light-ready, light-sound}
 

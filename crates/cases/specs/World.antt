@@ -6,7 +6,7 @@ use Prim.Native.Nat.{ℕ, _<_, _≤_}
 use lib.Dec.{eqb}
 use lib.ListN.{length}
 use Rattle.semantics.specs.Structure.{Structure}
-use Rattle.sets.specs.Set.{member, removed}
+use Rattle.sets.specs.Set.{member}
 use Rattle.table.specs.declared.entry.Entry.{Entry}
 use Rattle.table.specs.Formulas.{depthAt}
 use Rattle.table.specs.Formed.{WellFormed}
@@ -59,10 +59,3 @@ module _ (entry : ℕ → Entry) where
   abbrev pub BranchIs : ℕ → Bool → ℕ → Wants → ℕ → Outcome → Type 0
   BranchIs n case d w depth (Outcome.Settled v) = Branch n case d w depth v
   BranchIs n case d w depth Outcome.Clash = (s : Structure) (u : ℕ) → MeetsW entry s u w → CaseOf case d s u → ⊥
-
--- the same, but that entry d is not pending
-abbrev pub Lightened : ℕ → Outcome → Outcome → Type 0
-Lightened d (Outcome.Settled v) (Outcome.Settled u) = (u .yes ≡ v .yes) × (u .no ≡ v .no) × (member (u .pending) ≡ removed (member (v .pending)) d)
-Lightened d (Outcome.Settled v) Outcome.Clash = ⊥
-Lightened d Outcome.Clash (Outcome.Settled u) = ⊥
-Lightened d Outcome.Clash Outcome.Clash = Unit {0}

@@ -3,42 +3,11 @@ ghost use lib.ListN.{length};
 ghost use Rattle.sets.specs.Set.{member};
 ghost use Rattle.sets.specs.Word.{Greatest};
 ghost use Rattle.wide.specs.Wide.{wideAt};
-ghost use Rattle.wants.specs.Outcome.{Asked, OutcomeIs};
-ghost use Rattle.cases.specs.World.{Ready, BranchIs, Lightened};
+ghost use Rattle.cases.specs.World.{Ready, BranchIs};
 use wants::Outcome;
 use wants::Wants;
+use wants::want;
 use wide::wide_at;
-
-// Wants entry e to be so.
-pub fn want(entries: &[u64], e: usize, w: Wants, truth: bool) -> Outcome
-    requires { ⌜ Asked (wideAt (now entries)) (length (now entries)) e w ⌝ }
-    ensures { λ r. ⌜ OutcomeIs (wideAt (now (entries .entry))) (length (now (entries .entry))) truth e w r ⌝ }
-{
-    if truth {
-        wants::wanted_true(entries, e, w)
-    } else {
-        wants::wanted_false(entries, e, w)
-    }
-}
-
-// Entry d is pending no more.
-pub fn lighten(outcome: Outcome, d: usize) -> Outcome
-    ensures { λ r. ⌜ Lightened d outcome r ⌝ }
-{
-    match outcome {
-        Outcome::Settled(v) => {
-            let yes = v.yes;
-            let no = v.no;
-            let pending = v.pending;
-            Outcome::Settled(Wants {
-                yes,
-                no,
-                pending: pending.without(d),
-            })
-        }
-        Outcome::Clash => Outcome::Clash,
-    }
-}
 
 // What is wanted in a case of the split of the highest pending entry d: its first part is as it serves, or it is not and
 // the second part is. Of the second case the second part alone may be wanted.
@@ -51,15 +20,15 @@ pub fn branch(entries: &[u64], w: Wants, d: usize, case: bool, depth: usize) -> 
     let first = e.first as usize;
     let second = e.second as usize;
     if case {
-        return lighten(want(entries, first, w, serving), d);
+        return want(entries, first, w, serving).lighten(d);
     }
     // That a counting entry is not so would be a need or a limit more, and a larger problem.
     let other = wide_at(entries, first);
     if 6 <= other.kind {
-        return lighten(want(entries, second, w, serving), d);
+        return want(entries, second, w, serving).lighten(d);
     }
     match want(entries, first, w, !serving) {
-        Outcome::Settled(v) => lighten(want(entries, second, v, serving), d),
+        Outcome::Settled(v) => want(entries, second, v, serving).lighten(d),
         Outcome::Clash => Outcome::Clash,
     }
 }

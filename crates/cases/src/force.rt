@@ -9,14 +9,13 @@ ghost use Rattle.wide.specs.Wide.{wideAt};
 ghost use Rattle.memory.specs.Memory.{Memory};
 ghost use Rattle.cases.specs.World.{Ready, Waiting, WorldAsked};
 ghost use Rattle.cases.specs.Force.{never, RuledFor, KnownIs, LeftIs, ForcedIs};
-use crate::branch::lighten;
-use crate::branch::want;
 use memory::learnt::Ruled;
 use memory::learnt::rulings;
 use sets::Highest;
 use sets::Set;
 use wants::Outcome;
 use wants::Wants;
+use wants::want;
 use wants::wanted;
 use wide::wide_at;
 
@@ -122,7 +121,7 @@ fn force_at(
     match part_left(entries, w, known, d, bound, depth) {
         Left::Part(i) => {
             let e = wide_at(entries, d);
-            lighten(want(entries, i, w, e.kind == 5), d)
+            want(entries, i, w, e.kind == 5).lighten(d)
         }
         Left::Open => Outcome::Settled(w),
     }

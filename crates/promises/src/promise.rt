@@ -9,7 +9,6 @@ ghost use Rattle.tableau.specs.Wants.{addedIf};
 ghost use Rattle.counting.specs.Question.{problemOf, asks};
 ghost use Rattle.wants.specs.Outcome.{Asked};
 ghost use Rattle.promises.specs.Promise.{AllIs, onlyIf, PartIs, Promising, PromisedIs, PartsOf};
-use cases::branch::want;
 use counting::question::Question;
 use counting::question::asks;
 use sets::Highest;
@@ -17,6 +16,7 @@ use sets::Set;
 use table::entry::Entry;
 use wants::Outcome;
 use wants::Wants;
+use wants::want;
 use wide::wide_at;
 
 // The parts of promised needs, and of promised limits.

@@ -7,11 +7,11 @@ ghost use Rattle.tableau.specs.Wants.{Sat};
 ghost use Rattle.satisfy.specs.Sets.{SetAsked, TakenIs, SetsAsked, SettlingIs, QuestionAsked};
 use crate::world::ALL;
 use crate::world::world;
-use cases::branch::want;
 use sets::Highest;
 use sets::Set;
 use wants::Outcome;
 use wants::Wants;
+use wants::want;
 
 // Wants every entry of a set to be so.
 fn want_all(entries: &[u64], set: Set, w: Wants, truth: bool) -> Outcome

@@ -4,7 +4,7 @@ use mathlib.Core.Logic.{_⊎_}
 use mathlib.Core.Bool.{Bool, true}
 use Prim.Native.Nat.{ℕ, _<_, _≤_}
 use Rattle.semantics.specs.Structure.{Structure}
-use Rattle.sets.specs.Set.{member}
+use Rattle.sets.specs.Set.{member, removed}
 use Rattle.table.specs.declared.entry.Entry.{Entry}
 use Rattle.table.specs.Formulas.{depthAt}
 use Rattle.table.specs.Formed.{WellFormed}
@@ -56,3 +56,10 @@ module _ (entry : ℕ → Entry) where
     abbrev pub OutcomeIs : Bool → ℕ → Wants → Outcome → Type 0
     OutcomeIs b e w (Outcome.Settled w′) = Taken b e w w′
     OutcomeIs b e w Outcome.Clash = Refuted b e w
+
+-- what it was, but that entry d is not pending
+abbrev pub Lightened : ℕ → Outcome → Outcome → Type 0
+Lightened d (Outcome.Settled v) (Outcome.Settled u) = (u .yes ≡ v .yes) × (u .no ≡ v .no) × (member (u .pending) ≡ removed (member (v .pending)) d)
+Lightened d (Outcome.Settled v) Outcome.Clash = ⊥
+Lightened d Outcome.Clash (Outcome.Settled u) = ⊥
+Lightened d Outcome.Clash Outcome.Clash = Unit {0}

@@ -1,6 +1,6 @@
 // What is wanted at a world, as sets of entry numbers, and the rules for one entry more.
-// `wanted_true` and `wanted_false` want an entry besides what is wanted: they answer the sets that this comes to once every
-// rule has been applied, or that no world can be so.
+// `want` wants an entry besides what is wanted: it answers the sets that this comes to once every rule has been applied that
+// leaves no choice, or that no world can be so (known as the non-branching rules of a tableau).
 ghost use mathlib.Core.Path.{_≡_};
 ghost use mathlib.Core.Bool.{true, false, cond};
 ghost use Prim.Native.Nat.{ℕ, _<_};
@@ -9,7 +9,7 @@ ghost use Rattle.sets.specs.Set.{member};
 ghost use Rattle.semantics.specs.Answer.{Answers};
 ghost use Rattle.tableau.specs.Wants.{addedIf};
 ghost use Rattle.wide.specs.Wide.{wideAt};
-ghost use Rattle.wants.specs.Outcome.{wantedW, Asked, OutcomeIs};
+ghost use Rattle.wants.specs.Outcome.{wantedW, Asked, OutcomeIs, Lightened};
 ghost use Rattle.wants.specs.Step.{Put, PutAfter, isFact, HasFact, ClashIs, StepIs};
 use sets::Highest;
 use sets::Set;
@@ -30,6 +30,23 @@ pub enum Outcome {
     Clash,
 }
 
+impl Outcome {
+    // Entry d is pending no more.
+    pub fn lighten(self, d: usize) -> Outcome
+        ensures { λ r. ⌜ Lightened d self r ⌝ }
+    {
+        match self {
+            Outcome::Settled(w) => {
+                let yes = w.yes;
+                let no = w.no;
+                let pending = w.pending.without(d);
+                Outcome::Settled(Wants { yes, no, pending })
+            }
+            Outcome::Clash => Outcome::Clash,
+        }
+    }
+}
+
 // What wanting an entry starts with.
 enum Step {
     // No part comes first, or the entry was wanted before.
@@ -40,31 +57,16 @@ enum Step {
     Both(usize, usize),
 }
 
-// Wants entry e to be true.
-pub fn wanted_true(entries: &[u64], e: usize, w: Wants) -> Outcome
+// Wants entry e to be so besides.
+pub fn want(entries: &[u64], e: usize, w: Wants, truth: bool) -> Outcome
     requires { ⌜ Asked (wideAt (now entries)) (length (now entries)) e w ⌝ }
-    ensures { λ r. ⌜ OutcomeIs (wideAt (now (entries .entry))) (length (now (entries .entry))) true e w r ⌝ }
+    ensures { λ r. ⌜ OutcomeIs (wideAt (now (entries .entry))) (length (now (entries .entry))) truth e w r ⌝ }
 {
-    match first_step(entries, e, w, true) {
+    match first_step(entries, e, w, truth) {
         Step::Done(outcome) => outcome,
-        Step::Turned(part) => put_after(wanted_false(entries, part, w), e, true),
-        Step::Both(first, second) => match wanted_true(entries, first, w) {
-            Outcome::Settled(one) => put_after(wanted_true(entries, second, one), e, true),
-            Outcome::Clash => Outcome::Clash,
-        },
-    }
-}
-
-// Wants entry e to be false.
-pub fn wanted_false(entries: &[u64], e: usize, w: Wants) -> Outcome
-    requires { ⌜ Asked (wideAt (now entries)) (length (now entries)) e w ⌝ }
-    ensures { λ r. ⌜ OutcomeIs (wideAt (now (entries .entry))) (length (now (entries .entry))) false e w r ⌝ }
-{
-    match first_step(entries, e, w, false) {
-        Step::Done(outcome) => outcome,
-        Step::Turned(part) => put_after(wanted_true(entries, part, w), e, false),
-        Step::Both(first, second) => match wanted_false(entries, first, w) {
-            Outcome::Settled(one) => put_after(wanted_false(entries, second, one), e, false),
+        Step::Turned(part) => put_after(want(entries, part, w, !truth), e, truth),
+        Step::Both(first, second) => match want(entries, first, w, truth) {
+            Outcome::Settled(one) => put_after(want(entries, second, one, truth), e, truth),
             Outcome::Clash => Outcome::Clash,
         },
     }
