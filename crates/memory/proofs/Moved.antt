@@ -11,7 +11,7 @@ use lib.ListN.{length, getD, set, take, drop, length-drop, List·getD-eq-default
 use lib.Seq.{getD-set-same, getD-set-other, take-all, drop-length, getD-drop, getD-append-add, length-take-le}
 use borrow.Rule.Slice.PartMut.{putMid, post-is}
 use Rattle.table.specs.declared.entry.Entry.{Entry}
-use Rattle.memory.specs.Memory.{mark, Memory}
+use Rattle.memory.specs.Memory.{answerCode, Memory}
 
 module _ (entry : ℕ → Entry) where
   -- the words of the slots are the same, at another place
@@ -61,11 +61,11 @@ module _ (entry : ℕ → Entry) where
 
   -- words of 0 remember nothing
   pub memory-none : (words : List ℕ) (from : ℕ) → ((i : ℕ) → from ≤ i → i < from + 49152 → getD words i 0 ≡ 0) → Memory entry words from
-  memory-none words from zero = record { slot = λ k few. record { says = λ answer e. absurd (unmarked answer (sym (zero (from + 3 * k + 2) (omega arith) (omega arith)) ∙ e)) } }
+  memory-none words from zero = record { slot = λ k few. record { says = λ answer e. absurd (no-code answer (sym (zero (from + 3 * k + 2) (omega arith) (omega arith)) ∙ e)) } }
     where
-      unmarked : (answer : Bool) → 0 ≡ mark answer → ⊥
-      unmarked true e = omega arith
-      unmarked false e = omega arith
+      no-code : (answer : Bool) → 0 ≡ answerCode answer → ⊥
+      no-code true e = omega arith
+      no-code false e = omega arith
 
 -- words that become 0 one by one, from a place on
 abbrev pub Zeros : ℕ → ℕ → List ℕ → Type 0

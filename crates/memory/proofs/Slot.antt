@@ -14,22 +14,22 @@ use Rattle.table.specs.declared.entry.Entry.{Entry}
 use Rattle.semantics.specs.Answer.{Answers}
 use Rattle.tableau.specs.Wants.{Sat}
 use Rattle.memory.specs.declared.Remembered.{Remembered}
-use Rattle.memory.specs.Memory.{mark, Recalled, Memory, RecallIs, StandsFor, Written, Stored, Shifted}
+use Rattle.memory.specs.Memory.{answerCode, Recalled, Memory, RecallIs, StandsFor, Written, Stored, Shifted}
 
-mark-injective : (a b : Bool) → mark a ≡ mark b → a ≡ b
-mark-injective true true e = refl
-mark-injective true false e = absurd (omega arith)
-mark-injective false true e = absurd (omega arith)
-mark-injective false false e = refl
+code-injective : (a b : Bool) → answerCode a ≡ answerCode b → a ≡ b
+code-injective true true e = refl
+code-injective true false e = absurd (omega arith)
+code-injective false true e = absurd (omega arith)
+code-injective false false e = refl
 
--- a slot with the codes of two sets and the number of an answer says that this is the answer to their question
+-- a slot with the codes of two sets and of an answer says that this is the answer to their question
 pub slot-says : {entry : ℕ → Entry} {words : List ℕ} {from : ℕ} → Memory entry words from → (k : ℕ) → k < 16384 → (yes no : Set) (answer : Bool)
-    → getD words (from + 3 * k) 0 ≡ code yes → getD words (from + 3 * k + 1) 0 ≡ code no → getD words (from + 3 * k + 2) 0 ≡ mark answer
+    → getD words (from + 3 * k) 0 ≡ code yes → getD words (from + 3 * k + 1) 0 ≡ code no → getD words (from + 3 * k + 2) 0 ≡ answerCode answer
     → Answers answer (Sat entry (member yes) (member no))
 unfolding member
 slot-says memory k few ts fs answer first second third = (rw (first, second) at (memory .slot k few .says answer)) third
 
--- so does what its last word stands for
+-- so does the answer whose code its last word is
 pub recalled : {entry : ℕ → Entry} {words : List ℕ} {from : ℕ} → Memory entry words from → (k : ℕ) → k < 16384 → (yes no : Set) (last : ℕ) (r : Remembered)
     → getD words (from + 3 * k) 0 ≡ code yes → getD words (from + 3 * k + 1) 0 ≡ code no → getD words (from + 3 * k + 2) 0 ≡ last → StandsFor last r
     → RecallIs entry (member yes) (member no) r
@@ -88,13 +88,13 @@ module _ (words : List ℕ) (from k y n m : ℕ) (room : from + 3 * k + 3 ≤ le
 -- what was written into a slot is known
 module _ {from y n m : ℕ} {before after : List ℕ} (written : Written from y n m before after) where
   -- the answer to a question is written into a slot
-  pub stored : (yes no : Set) (answer : Bool) → y ≡ code yes → n ≡ code no → m ≡ mark answer → Stored from (member yes) (member no) answer before after
+  pub stored : (yes no : Set) (answer : Bool) → y ≡ code yes → n ≡ code no → m ≡ answerCode answer → Stored from (member yes) (member no) answer before after
   unfolding member
   stored ts fs answer first second third = record {
     same-length = written .same-length;
     same = written .same;
     memory = λ entry memory so. written .memory entry memory
-        (rw (first, second, third) (record { says = λ a e. rw (mark-injective a answer (sym e)) so }));
+        (rw (first, second, third) (record { says = λ a e. rw (code-injective a answer (sym e)) so }));
   }
 
   -- what one slot says is written into another

@@ -1,4 +1,4 @@
--- Questions that have been answered, in lent words. A slot is three words: the codes of the set wanted true and of the set wanted false, and the answer.
+-- Questions that have been answered, in lent words. A slot is three words: the codes of the set wanted true, of the set wanted false, and of the answer.
 -- An inner contract. What a slot says is so at any depth, whatever was worked out to get it, so slots may be overwritten freely.
 use mathlib.Core.Path.{_≡_}
 use mathlib.Core.Bool.{Bool, true, false}
@@ -12,15 +12,15 @@ use Rattle.tableau.specs.Wants.{Sat}
 use Rattle.memory.specs.declared.Place.{Place}
 use Rattle.memory.specs.declared.Remembered.{Remembered}
 
--- the number that stands for an answer; 0 stands for none
-abbrev pub mark : Bool → ℕ
-mark true = 1
-mark false = 2
+-- the code of an answer; 0 is that of none
+abbrev pub answerCode : Bool → ℕ
+answerCode true = 1
+answerCode false = 2
 
 module _ (entry : ℕ → Entry) where
-  -- a slot whose last word is the number of an answer says that this is the answer
+  -- a slot whose last word is the code of an answer says that this is the answer
   pub record Recalled (yes no last : ℕ) : Type 0 where
-    pub says : (answer : Bool) → last ≡ mark answer → Answers answer (Sat entry (bitAt yes) (bitAt no))
+    pub says : (answer : Bool) → last ≡ answerCode answer → Answers answer (Sat entry (bitAt yes) (bitAt no))
 
   -- so do the slots from a place on, 16,384 at the most
   pub record Memory (words : List ℕ) (from : ℕ) : Type 0 where
@@ -31,9 +31,9 @@ module _ (entry : ℕ → Entry) where
   RecallIs ts fs (Remembered.Answer answer) = Answers answer (Sat entry ts fs)
   RecallIs ts fs Remembered.Nothing = Unit {0}
 
--- a slot's last word stands for an answer
+-- a slot's last word is the code of an answer
 abbrev pub StandsFor : ℕ → Remembered → Type 0
-StandsFor last (Remembered.Answer answer) = last ≡ mark answer
+StandsFor last (Remembered.Answer answer) = last ≡ answerCode answer
 StandsFor last Remembered.Nothing = Unit {0}
 
 -- there is room among the words for a slot, which is one of the first 16,384

@@ -1,6 +1,6 @@
 // What was learnt: questions whose answers tell of others too. Where no world is as a few entries want, none is that wants
-// more; where a world is as many entries want, it is as any of them want. The first slots are for those, as many for either
-// answer, and each of them is looked at.
+// more (known as nogoods, or learnt clauses); where a world is as many entries want, it is as any of them want. The first
+// slots are for those, as many for either answer, and each of them is looked at.
 ghost use mathlib.Core.Path.{_≡_};
 ghost use mathlib.Core.Bool.{true};
 ghost use Prim.Native.Nat.{ℕ, _<_};

@@ -50,7 +50,7 @@ fn find(words: usize, from: usize, yes: Set, no: Set, dear: bool) -> Place
     }
 }
 
-// The answer that a slot's last word stands for.
+// The answer whose code a slot's last word is.
 fn answer_of(last: u64) -> Remembered
     ensures { λ r. ⌜ StandsFor last r ⌝ }
 {

@@ -1,9 +1,10 @@
 // The slots in lent words, from a place on: how many there are, which of them are for what is learnt, and how one is written.
 ghost use mathlib.Core.Path.{_≡_};
-ghost use Prim.Native.Nat.{min, _*_, _<_, _≤_};
+ghost use Prim.Native.Nat.{_*_, _<_, _≤_};
 ghost use lib.ListN.{length};
 ghost use Rattle.sets.specs.Set.{member};
-ghost use Rattle.memory.specs.Memory.{mark, Fits, SlotsIs, Written, Stored};
+ghost use Rattle.memory.specs.Memory.{answerCode, Fits, SlotsIs, Written, Stored};
+use numbers::min;
 use packed::word_at;
 use sets::Set;
 use std::num;
@@ -19,12 +20,6 @@ pub fn spread(yes: Set, no: Set, places: usize) -> usize
     (num::wrapping_add_u64(a, b) >> 32) as usize % places
 }
 
-fn fewer(a: usize, b: usize) -> usize
-    ensures { λ r. ⌜ r ≡ min a b ⌝ }
-{
-    if a < b { a } else { b }
-}
-
 // How many slots there are among so many words, from a place on.
 pub fn slots_in(words: usize, from: usize) -> usize
     ensures { λ r. ⌜ SlotsIs from words r ⌝ }
@@ -32,14 +27,14 @@ pub fn slots_in(words: usize, from: usize) -> usize
     if words <= from {
         return 0;
     }
-    fewer((words - from) / 3, 16384)
+    min(((words - from) / 3) as u64, 16384) as usize
 }
 
 // How many of so many slots are for what is learnt, of either answer.
 pub fn learnt_in(slots: usize) -> usize
     ensures { λ r. ⌜ 8 * r ≤ slots ⌝ }
 {
-    fewer(slots / 8, 256)
+    min((slots / 8) as u64, 256) as usize
 }
 
 // Whether nothing was stored in a slot.
@@ -49,9 +44,9 @@ pub fn is_free(words: &[u64], from: usize, slot: usize) -> bool
     word_at(words, from + 3 * slot + 2) == 0
 }
 
-// The word that stands for an answer.
-fn mark_of(answer: bool) -> u64
-    ensures { λ r. ⌜ r ≡ mark answer ⌝ }
+// The code of an answer.
+fn answer_code(answer: bool) -> u64
+    ensures { λ r. ⌜ r ≡ answerCode answer ⌝ }
 {
     if answer { 1 } else { 2 }
 }
@@ -72,5 +67,5 @@ pub fn store(words: &mut [u64], from: usize, slot: usize, yes: Set, no: Set, ans
     requires { ⌜ Fits from (length (now words)) slot ⌝ }
     ensures { λ r. ⌜ Stored from (member yes) (member no) answer (now (words .entry)) (now (words .exit)) ⌝ }
 {
-    put(words, from, slot, yes.code(), no.code(), mark_of(answer));
+    put(words, from, slot, yes.code(), no.code(), answer_code(answer));
 }
