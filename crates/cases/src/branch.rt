@@ -10,7 +10,7 @@ use wants::want;
 use wide::wide_at;
 
 // What is wanted in a case of the split of the highest pending entry d: its first part is as it serves, or it is not and
-// the second part is. Of the second case the second part alone may be wanted.
+// the second part is (known as semantic branching). Of the second case the second part alone may be wanted.
 pub fn branch(entries: &[u64], w: Wants, d: usize, case: bool, depth: usize) -> Outcome
     requires { ⌜ Ready (wideAt (now entries)) (length (now entries)) w 64 depth × Greatest (member (w .pending)) d ⌝ }
     ensures { λ r. ⌜ BranchIs (wideAt (now (entries .entry))) (length (now (entries .entry))) case d w depth r ⌝ }

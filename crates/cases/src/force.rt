@@ -1,5 +1,6 @@
 // What follows at once from what is wanted, without a split: where one part of a pending entry is as it serves, or the other
-// one is not, this part is wanted, and the entry is pending no more. What was learnt tells of parts that they cannot be so.
+// one is not, this part is wanted, and the entry is pending no more. What was learnt tells of parts that they cannot be so
+// (known as unit propagation, here with the learnt nogoods).
 ghost use mathlib.Core.Path.{_≡_};
 ghost use Prim.Native.Nat.{_<_};
 ghost use lib.ListN.{length};

@@ -127,7 +127,8 @@ pub fn prices_behind(
     prices_from(entries, q, work, at + k, r)
 }
 
-// The entries that are guessed to have no solution: these, and the limits that allow none, which every listed set promises.
+// The entries that are guessed to have no solution (known as an unsatisfiable core): these, and the limits that allow none,
+// which every listed set promises.
 pub fn blamed(entries: &[u64], q: Question, weighted: Set) -> Set
     requires { ⌜ Small (problemOf (now entries) q) ⌝ }
 {
@@ -145,8 +146,8 @@ pub fn blamed_behind(entries: &[u64], q: Question, k: usize, level: usize, work:
     blamed(entries, q, weighing(work, at + k))
 }
 
-// Whether all the largest sets are likely to be listed soon: there are few promises, and no successor counts further, so
-// that it costs little to ask whether it can be had.
+// Whether all the largest sets (known as maximal satisfiable subsets) are likely to be listed soon: there are few promises,
+// and no successor counts further, so that it costs little to ask whether it can be had.
 pub fn is_short(all: Set, depth: usize) -> bool {
     depth == 1 && all.len() <= 12
 }

@@ -1,4 +1,5 @@
-// What the promises of a successor come to: as wants at its world, and as the parts that are true or false there.
+// What the promises of a successor come to: as wants at its world, and as the parts that are true or false there (known as
+// its label).
 ghost use lib.ListN.{length};
 ghost use mathlib.Core.Path.{_≡_};
 ghost use mathlib.Core.Bool.{true, false};
