@@ -45,7 +45,7 @@ pub fn is_free(words: &[u64], from: usize, slot: usize) -> bool
 }
 
 // The code of an answer.
-fn answer_code(answer: bool) -> u64
+fn code_of(answer: bool) -> u64
     ensures { λ r. ⌜ r ≡ answerCode answer ⌝ }
 {
     if answer { 1 } else { 2 }
@@ -67,5 +67,5 @@ pub fn store(words: &mut [u64], from: usize, slot: usize, yes: Set, no: Set, ans
     requires { ⌜ Fits from (length (now words)) slot ⌝ }
     ensures { λ r. ⌜ Stored from (member yes) (member no) answer (now (words .entry)) (now (words .exit)) ⌝ }
 {
-    put(words, from, slot, yes.code(), no.code(), answer_code(answer));
+    put(words, from, slot, yes.code(), no.code(), code_of(answer));
 }

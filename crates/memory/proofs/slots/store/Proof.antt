@@ -8,7 +8,7 @@ returns : tie.Need-returns
 returns c =
     let wrote = c .before .before in
     let args = c .before .before .before .before .before .before .before .before .args in
-    stored (wrote .put .ensures) (args .yes) (args .no) (args .answer) (c .before .before .before .before .before .code .ensures) (c .before .before .before .before .code2 .ensures) (c .before .before .before .answer-code .ensures)
+    stored (wrote .put .ensures) (args .yes) (args .no) (args .answer) (c .before .before .before .before .before .code .ensures) (c .before .before .before .before .code2 .ensures) (c .before .before .before .code-of .ensures)
 
 pub store-spec : {M : Type 1} → statement M
 store-spec =
