@@ -18,6 +18,7 @@ use table::entry::Entry;
 use wants::Outcome;
 use wants::Wants;
 use wants::want;
+use wants::with_if;
 use wide::wide_at;
 
 // The parts of promised needs, and of promised limits.
@@ -81,12 +82,7 @@ fn with_part(found: Set, e: Entry, q: Question, i: usize, need: bool) -> Set
     requires { ⌜ e .first < 64 ⌝ }
     ensures { λ r. ⌜ member r ≡ addedIf (asks q e i need) (member found) (e .first) ⌝ }
 {
-    let first = e.first as usize;
-    if asks(e, q, i, need) {
-        found.with(first)
-    } else {
-        found
-    }
+    with_if(found, e.first as usize, asks(e, q, i, need))
 }
 
 // The parts that a successor has to make true, those of promised needs, and false, those of promised limits, to keep the

@@ -183,7 +183,7 @@ fn put_after(parts: Outcome, e: usize, truth: bool) -> Outcome
 }
 
 // The set with i, if `more` says so.
-fn with_if(set: Set, i: usize, more: bool) -> Set
+pub fn with_if(set: Set, i: usize, more: bool) -> Set
     requires { ⌜ i < 64 ⌝ }
     ensures { λ r. ⌜ member r ≡ addedIf more (member set) i ⌝ }
 {
