@@ -1,6 +1,6 @@
 // What the slots leave unmet, what room they leave, and how many copies of a set are of use.
 ghost use mathlib.Core.Path.{_≡_};
-ghost use Prim.Native.Nat.{_<_, _≤_, min, max};
+ghost use Prim.Native.Nat.{_<_, _≤_};
 ghost use lib.ListN.{length};
 ghost use Rattle.sets.specs.Set.{member, code};
 ghost use Rattle.semantics.specs.Answer.{Answers};
@@ -11,20 +11,10 @@ ghost use Rattle.counting.specs.Bounds.{Lacking, Leaving};
 use crate::question;
 use crate::question::Question;
 use crate::stack;
+use numbers::max;
+use numbers::min;
 use sets::Set;
 use wide::wide_at;
-
-fn larger(a: u64, b: u64) -> u64
-    ensures { λ r. ⌜ r ≡ max a b ⌝ }
-{
-    if a < b { b } else { a }
-}
-
-fn smaller(a: u64, b: u64) -> u64
-    ensures { λ r. ⌜ r ≡ min a b ⌝ }
-{
-    if a < b { a } else { b }
-}
 
 // What entry i lacks, if it is a need in the set b.
 fn lack_of(entries: &[u64], q: Question, b: Set, words: &[u64], k: usize, i: usize) -> u64
@@ -51,7 +41,7 @@ fn lack(entries: &[u64], q: Question, b: Set, words: &[u64], k: usize) -> u64
     let mut most: u64 = 0;
     let mut i = 0;
     while i < n {
-        most = larger(most, lack_of(entries, q, b, words, k, i));
+        most = max(most, lack_of(entries, q, b, words, k, i));
         i += 1;
     }
     most
@@ -82,7 +72,7 @@ fn room(entries: &[u64], q: Question, b: Set, words: &[u64], k: usize) -> u64
     let mut least: u64 = 4096;
     let mut i = 0;
     while i < n {
-        least = smaller(least, room_of(entries, q, b, words, k, i));
+        least = min(least, room_of(entries, q, b, words, k, i));
         i += 1;
     }
     least
@@ -97,7 +87,7 @@ pub fn useful(entries: &[u64], q: Question, b: Set, words: &[u64], k: usize) -> 
     if wanting == 0 {
         return 0;
     }
-    smaller(wanting, room(entries, q, b, words, k))
+    min(wanting, room(entries, q, b, words, k))
 }
 
 // Whether every need is met; `all` are the needs and limits.

@@ -7,6 +7,7 @@ ghost use lib.ListN.{length};
 ghost use Rattle.sets.specs.Set.{member, nothing, Within};
 use counting::question;
 use counting::question::Question;
+use numbers::max;
 use packed::word_at;
 use sets::Set;
 use simplex::row_weights::Sides;
@@ -44,8 +45,7 @@ fn greatest(words: &[u64], from: usize) -> u64 {
     let mut most: u64 = 0;
     let mut i: usize = 0;
     while i < 64 {
-        let w = weight(words, from, i);
-        most = if most < w { w } else { most };
+        most = max(most, weight(words, from, i));
         i += 1;
     }
     most

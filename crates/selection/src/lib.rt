@@ -15,6 +15,7 @@ ghost use Rattle.selection.specs.Selecting.{ListAsked, SolvedIs, Selecti
 use counting::bounds;
 use counting::question::Question;
 use counting::stack;
+use numbers::min;
 use packed::word_at;
 use relaxing::Relaxed;
 use sets::Set;
@@ -79,13 +80,6 @@ fn within(j: usize, k: usize) -> usize
     if j <= k { j } else { 0 }
 }
 
-// The lesser number.
-fn smaller(a: u64, b: u64) -> u64
-    ensures { λ r. ⌜ r ≤ b ⌝ }
-{
-    if a < b { a } else { b }
-}
-
 // Whether the weights behind the list, as the last relaxation left them, are seen to refute every number of copies of the set b
 // from low to high.
 fn spanned(
@@ -147,7 +141,7 @@ fn vary(
 {
     let b = Set::of_code(word_at(words, at));
     let most = bounds::useful(entries, q, b, words, slots);
-    let start = smaller(first, most);
+    let start = min(first, most);
     if rise(entries, q, all, words, at + 1, k, slots, b, start, most) {
         return true;
     }

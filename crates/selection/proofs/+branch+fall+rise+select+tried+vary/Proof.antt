@@ -37,9 +37,9 @@ use Rattle.selection.proofs.+branch+fall+rise+select+tried+vary.Lts-var
 use Rattle.counting.proofs.bounds.met.Reads as met-reads
 use Rattle.counting.proofs.bounds.useful.Reads as useful-reads
 use Rattle.counting.proofs.stack.put_slot.Reads as put-slot-reads
+use Rattle.numbers.proofs.min.Reads as min-reads
 use Rattle.packed.proofs.word_at.Reads as word-at-reads
 use Rattle.relaxing.proofs.seen.Reads as seen-reads
-use Rattle.selection.proofs.smaller.Reads as smaller-reads
 use Rattle.selection.proofs.spanned.Reads as spanned-reads
 use Rattle.selection.proofs.swap.Reads as swap-reads
 use Rattle.selection.proofs.within.Reads as within-reads
@@ -319,7 +319,7 @@ tried-returns-2 t c =
 -- what it calls
 abbrev vary-calls : ℕ → vary-lts.Claims
 vary-calls t =
-    (word-at-reads.Asked, word-at-reads.Learnt, of-code-reads.Asked, of-code-reads.Learnt, useful-reads.Asked, useful-reads.Learnt, smaller-reads.Asked, smaller-reads.Learnt, rise-below t, rise.Post, fall-below t, fall.Post)
+    (word-at-reads.Asked, word-at-reads.Learnt, of-code-reads.Asked, of-code-reads.Learnt, useful-reads.Asked, useful-reads.Learnt, min-reads.Asked, min-reads.Learnt, rise-below t, rise.Post, fall-below t, fall.Post)
 
 vary-useful-requires : (t : ℕ) → vary-lts.Need-useful-requires (vary-calls t) (vary-at t) vary.Post
 vary-useful-requires t c κs =
@@ -336,7 +336,7 @@ vary-returns t c =
 vary-fall-requires : (t : ℕ) → vary-lts.Need-fall-requires (vary-calls t) (vary-at t) vary.Post
 vary-fall-requires t c κs = (
   omega arith,
-  risen-varying (c .before .before .before .before .before .before .before .before .before .before .before .before .before .before .pre .1) (c .before .before .before .before .before .before .before .useful .ensures) (c .before .before .before .before .before .before .before .before .before .of-code .ensures ∙ c .before .before .before .before .before .before .before .before .before .before .word-at .ensures) (c .before .before .before .before .before .before .smaller .ensures) (rw (c .before .if1 .left) at (c .before .before .before .before .rise .ensures))
+  risen-varying (c .before .before .before .before .before .before .before .before .before .before .before .before .before .before .pre .1) (c .before .before .before .before .before .before .before .useful .ensures) (c .before .before .before .before .before .before .before .before .before .of-code .ensures ∙ c .before .before .before .before .before .before .before .before .before .before .word-at .ensures) (omega (arith, c .before .before .before .before .before .before .min .ensures)) (rw (c .before .if1 .left) at (c .before .before .before .before .rise .ensures))
       (c .before .before .before .before .rise .kept .1 .1 .1 .0),
 )
 
@@ -345,7 +345,7 @@ vary-same-length-2 t c = c .before .before .fall .kept .1 .1 .1 .0 ∙ c .before
 
 vary-returns-2 : (t : ℕ) → vary-lts.Need-returns-2 (vary-calls t) (vary-at t) vary.Post
 vary-returns-2 t c =
-    selected-fallen (c .before .before .before .before .before .before .before .before .before .before .before .before .before .before .before .before .before .pre .1) (c .before .before .before .before .before .before .before .before .before .before .useful .ensures) (c .before .before .before .before .before .before .before .before .before .before .before .before .of-code .ensures ∙ c .before .before .before .before .before .before .before .before .before .before .before .before .before .word-at .ensures) (c .before .before .before .before .before .before .before .before .before .smaller .ensures) (rw (c .before .before .before .before .if1 .left) at (c .before .before .before .before .before .before .before .rise .ensures))
+    selected-fallen (c .before .before .before .before .before .before .before .before .before .before .before .before .before .before .before .before .before .pre .1) (c .before .before .before .before .before .before .before .before .before .before .useful .ensures) (c .before .before .before .before .before .before .before .before .before .before .before .before .of-code .ensures ∙ c .before .before .before .before .before .before .before .before .before .before .before .before .before .word-at .ensures) (omega (arith, c .before .before .before .before .before .before .before .before .before .min .ensures)) (rw (c .before .before .before .before .if1 .left) at (c .before .before .before .before .before .before .before .rise .ensures))
     (c .before .before .fall .result) (c .before .before .fall .ensures)
 
 pub +branch+fall+rise+select+tried+vary-spec : {M : Type 1} → statement M

@@ -20,7 +20,7 @@ abbrev μ-loop : tie.MeasureT-loop
 μ-loop entries q b words k n most₀ i₀ most i = n - i
 
 loop-again : tie.Need-loop-again Inv-loop μ-loop
-loop-again c = (search needs, rw (add-one, c .larger .ensures) (lacking-next _ _ _ (c .before .before .before .loop .inv .1) (c .before .lack-of .ensures)))
+loop-again c = (search needs, rw (add-one, c .max .ensures) (lacking-next _ _ _ (c .before .before .before .loop .inv .1) (c .before .lack-of .ensures)))
 
 returns : tie.Need-returns Inv-loop μ-loop
 returns c =

@@ -20,7 +20,7 @@ abbrev μ-loop : tie.MeasureT-loop
 μ-loop entries q b words k n least₀ i₀ least i = n - i
 
 loop-again : tie.Need-loop-again Inv-loop μ-loop
-loop-again c = (search needs, rw (add-one, c .smaller .ensures) (leaving-next _ _ _ (c .before .before .before .loop .inv .1) (c .before .room-of .ensures)))
+loop-again c = (search needs, rw (add-one, c .min .ensures) (leaving-next _ _ _ (c .before .before .before .loop .inv .1) (c .before .room-of .ensures)))
 
 returns : tie.Need-returns Inv-loop μ-loop
 returns c =

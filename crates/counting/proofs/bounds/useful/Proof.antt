@@ -8,7 +8,7 @@ returns : tie.Need-returns
 returns c = useful-none _ _ _ (rw (c .if1 .taken) at (c .before .lack .ensures)) (c .before .before .before .before .pre .1)
 
 returns-2 : tie.Need-returns-2
-returns-2 c = rw (c .smaller .ensures) (useful-made _ _ _ (c .before .before .before .lack .ensures) (c .before .room .ensures))
+returns-2 c = rw (c .min .ensures) (useful-made _ _ _ (c .before .before .before .lack .ensures) (c .before .room .ensures))
 
 pub useful-spec : {M : Type 1} → statement M
 useful-spec = tie.close (tie.spec (λ c κs. search needs) returns (λ c κs. search needs) (λ c κs. search needs) returns-2)
