@@ -1,11 +1,11 @@
 -- Copies of listed sets in lent words, one number a set, and the slots that they fill.
-use mathlib.Core.Bool.{true, false}
+use mathlib.Core.Bool.{Bool}
 use mathlib.Core.List.{List, _∷_}
 use Prim.Native.Nat.{ℕ, zero, suc, _+_, _%_, _≤_}
 use lib.ListN.{length, getD}
-use Rattle.tableau.specs.Counting.{lo, hi, served, spent}
-use Rattle.tableau.specs.Search.{Slot, taken, rowsOf, Problem, Asks}
-use Rattle.counting.specs.Stack.{slotsOf, Few}
+use Rattle.tableau.specs.Search.{Slot, taken, Problem, Asks}
+use Rattle.counting.specs.Question.{boundOf, Holds}
+use Rattle.counting.specs.Stack.{slotsOf, tallyOf, Few}
 
 -- the copies of the listed set j: the word at from + j, of which only the lower 16 bits count
 abbrev pub copiesAt : List ℕ → (from j : ℕ) → ℕ
@@ -27,9 +27,6 @@ pub record Placed (words : List ℕ) (at k slots from : ℕ) : Type 0 where
   pub copies : from + k ≤ length words
   pub short : k ≤ 4294967296
 
--- the slots meet entry i, if it is a need; they keep it, if it is a limit
-abbrev pub MetAt : Problem → List Slot → ℕ → Type 0
-MetAt P slots i = Asks P true i → lo (P .entry i) ≤ served i (rowsOf slots)
-
-abbrev pub KeptAt : Problem → List Slot → ℕ → Type 0
-KeptAt P slots i = Asks P false i → spent i (rowsOf slots) ≤ hi (P .entry i)
+-- the slots meet entry i, if it is a need (c true); they keep it, if it is a limit (c false)
+abbrev pub HoldsAt : Problem → List Slot → (c : Bool) → ℕ → Type 0
+HoldsAt P slots c i = Asks P c i → Holds c (boundOf c (P .entry i)) (tallyOf c i slots)

@@ -1,6 +1,6 @@
 -- A question as the problem that it poses.
 use mathlib.Core.Path.{_≡_}
-use mathlib.Core.Bool.{Bool, true, false, _&&_}
+use mathlib.Core.Bool.{Bool, true, false, cond, _&&_}
 use mathlib.Core.List.{List}
 use Prim.Native.Nat.{ℕ, _<_, _≤_}
 use lib.Dec.{eqb}
@@ -22,6 +22,15 @@ problemOf entries q =
 -- is entry i, with the fields e, a need (c true) or a limit (c false) of the question's relation
 abbrev pub asks : Question → Entry → ℕ → (c : Bool) → Bool
 asks q e i c = eqb (e .name) (q .relation) && bound (member (q .yes)) (member (q .no)) e i c
+
+-- how many successors an entry asks for as a need (c true), how many it allows as a limit (c false)
+abbrev pub boundOf : (c : Bool) → Entry → ℕ
+boundOf c e = cond c (lo e) (hi e)
+
+-- a need is met by no fewer than its bound, a limit is kept by no more
+abbrev pub Holds : (c : Bool) (bound count : ℕ) → Type 0
+Holds true bound count = bound ≤ count
+Holds false bound count = count ≤ bound
 
 -- there are no more entries than a set has room for, and only entries are wanted
 pub record Small (P : Problem) : Type 0 where

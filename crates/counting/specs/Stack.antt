@@ -4,7 +4,8 @@ use mathlib.Core.Bool.{Bool, cond, not}
 use mathlib.Core.List.{List, [], _∷_}
 use Prim.Native.Nat.{ℕ, zero, suc, _+_, _*_, _<_, _≤_}
 use lib.ListN.{length, getD}
-use Rattle.tableau.specs.Search.{Slot, taken}
+use Rattle.tableau.specs.Counting.{total}
+use Rattle.tableau.specs.Search.{Slot, taken, rowsOf}
 
 abbrev pub slotAt : List ℕ → ℕ → Slot
 slotAt words j = taken (getD words (2 * j) 0) (getD words (2 * j + 1) 0)
@@ -26,6 +27,10 @@ pub record Few (words : List ℕ) (k : ℕ) : Type 0 where
 -- those that promise are counted (promised true), or those that do not
 abbrev pub counts : (promised promises : Bool) → Bool
 counts promised promises = cond promised promises (not promises)
+
+-- how many successors of the slots are counted for entry i
+abbrev pub tallyOf : (promised : Bool) → ℕ → List Slot → ℕ
+tallyOf promised i slots = total (λ row. counts promised (row .promises i)) (rowsOf slots)
 
 -- m copies of the set b were written as slot k
 pub record Put (before : List ℕ) (k b m : ℕ) (after : List ℕ) : Type 0 where

@@ -1,5 +1,6 @@
 // What the slots leave unmet, what room they leave, and how many copies of a set are of use.
 ghost use mathlib.Core.Path.{_≡_};
+ghost use mathlib.Core.Bool.{false};
 ghost use Prim.Native.Nat.{_<_, _≤_};
 ghost use lib.ListN.{length};
 ghost use Rattle.sets.specs.Set.{member, code};
@@ -7,75 +8,75 @@ ghost use Rattle.semantics.specs.Answer.{Answers};
 ghost use Rattle.tableau.specs.Search.{asking, Met, Kept, Useful};
 ghost use Rattle.counting.specs.Question.{problemOf};
 ghost use Rattle.counting.specs.Stack.{slotsOf, Few};
-ghost use Rattle.counting.specs.Bounds.{Lacking, Leaving};
+ghost use Rattle.counting.specs.Bounds.{leftOf, unasked, tighter, Left};
 use crate::question;
 use crate::question::Question;
 use crate::stack;
 use numbers::max;
 use numbers::min;
 use sets::Set;
+use table::entry::Entry;
 use wide::wide_at;
 
-// What entry i lacks, if it is a need in the set b.
-fn lack_of(entries: &[u64], q: Question, b: Set, words: &[u64], k: usize, i: usize) -> u64
-    requires { ⌜ (i < length (now entries)) × Few (now words) k ⌝ }
-    ensures { λ r. ⌜ Lacking (problemOf (now (entries .entry)) q) (slotsOf (now (words .entry)) k) (code b) (λ j. j ≡ i) r ⌝ }
-{
-    if !b.contains(i) {
-        return 0;
-    }
-    let e = wide_at(entries, i);
-    if !question::asks(e, q, i, true) {
-        return 0;
-    }
-    question::less(question::least(e), stack::tally(words, k, i, true))
-}
-
-// The most that any need in the set b lacks.
-fn lack(entries: &[u64], q: Question, b: Set, words: &[u64], k: usize) -> u64
+// What an entry lacks behind k slots as a need, or else the room under it as a limit.
+pub fn left(e: Entry, words: &[u64], k: usize, i: usize, need: bool) -> u64
     requires { ⌜ Few (now words) k ⌝ }
-    ensures { λ r. ⌜ Lacking (problemOf (now (entries .entry)) q) (slotsOf (now (words .entry)) k) (code b)
-        (λ j. j < length (now (entries .entry))) r ⌝ }
+    ensures { λ r. ⌜ r ≡ leftOf need e i (slotsOf (now (words .entry)) k) ⌝ }
 {
-    let n = entries.len();
-    let mut most: u64 = 0;
-    let mut i = 0;
-    while i < n {
-        most = max(most, lack_of(entries, q, b, words, k, i));
-        i += 1;
-    }
-    most
+    question::less(question::bound(e, need), stack::tally(words, k, i, need))
 }
 
-// The room under entry i, if it is a limit that is not in the set b.
-fn room_of(entries: &[u64], q: Question, b: Set, words: &[u64], k: usize, i: usize) -> u64
-    requires { ⌜ (i < length (now entries)) × Few (now words) k × Kept (problemOf (now entries) q) (slotsOf (now words) k) ⌝ }
-    ensures { λ r. ⌜ Leaving (problemOf (now (entries .entry)) q) (slotsOf (now (words .entry)) k) (code b) (λ j. j ≡ i) r ⌝ }
+// Where nothing is asked, needs lack nothing, and limits have room for all that any need asks for.
+fn unasked(need: bool) -> u64
+    ensures { λ r. ⌜ r ≡ unasked need ⌝ }
 {
-    if b.contains(i) {
-        return 4096;
+    if need { 0 } else { 4096 }
+}
+
+// The greater of two lacks, or else the smaller of two rooms.
+fn tighter(a: u64, b: u64, need: bool) -> u64
+    ensures { λ r. ⌜ r ≡ tighter need a b ⌝ }
+{
+    if need { max(a, b) } else { min(a, b) }
+}
+
+// What entry i lacks, if it is a need in the set b, or else the room under it, if it is a limit outside b.
+fn left_at(
+    entries: &[u64],
+    q: Question,
+    b: Set,
+    words: &[u64],
+    k: usize,
+    i: usize,
+    need: bool,
+) -> u64
+    requires { ⌜ (i < length (now entries)) × Few (now words) k × (need ≡ false → Kept (problemOf (now entries) q) (slotsOf (now words) k)) ⌝ }
+    ensures { λ r. ⌜ Left (problemOf (now (entries .entry)) q) (slotsOf (now (words .entry)) k) (code b) need (λ j. j ≡ i) r ⌝ }
+{
+    if !stack::counts(b.contains(i), need) {
+        return unasked(need);
     }
     let e = wide_at(entries, i);
-    if !question::asks(e, q, i, false) {
-        return 4096;
+    if !question::asks(e, q, i, need) {
+        return unasked(need);
     }
-    question::less(question::most(e), stack::tally(words, k, i, false))
+    left(e, words, k, i, need)
 }
 
-// The least room under the limits that are not in the set b: 4096 if there are none.
-fn room(entries: &[u64], q: Question, b: Set, words: &[u64], k: usize) -> u64
-    requires { ⌜ Few (now words) k × Kept (problemOf (now entries) q) (slotsOf (now words) k) ⌝ }
-    ensures { λ r. ⌜ Leaving (problemOf (now (entries .entry)) q) (slotsOf (now (words .entry)) k) (code b)
+// The most that any need in the set b lacks, or else the least room under the limits outside b.
+fn tightest(entries: &[u64], q: Question, b: Set, words: &[u64], k: usize, need: bool) -> u64
+    requires { ⌜ Few (now words) k × (need ≡ false → Kept (problemOf (now entries) q) (slotsOf (now words) k)) ⌝ }
+    ensures { λ r. ⌜ Left (problemOf (now (entries .entry)) q) (slotsOf (now (words .entry)) k) (code b) need
         (λ j. j < length (now (entries .entry))) r ⌝ }
 {
     let n = entries.len();
-    let mut least: u64 = 4096;
+    let mut found = unasked(need);
     let mut i = 0;
     while i < n {
-        least = min(least, room_of(entries, q, b, words, k, i));
+        found = tighter(found, left_at(entries, q, b, words, k, i, need), need);
         i += 1;
     }
-    least
+    found
 }
 
 // How many copies of the set b to try first: as many as it lacks, if there is room for so many.
@@ -83,11 +84,11 @@ pub fn useful(entries: &[u64], q: Question, b: Set, words: &[u64], k: usize) -> 
     requires { ⌜ Few (now words) k × Kept (problemOf (now entries) q) (slotsOf (now words) k) ⌝ }
     ensures { λ r. ⌜ Useful (problemOf (now (entries .entry)) q) (slotsOf (now (words .entry)) k) (code b) r ⌝ }
 {
-    let wanting = lack(entries, q, b, words, k);
-    if wanting == 0 {
+    let lack = tightest(entries, q, b, words, k, true);
+    if lack == 0 {
         return 0;
     }
-    min(wanting, room(entries, q, b, words, k))
+    min(lack, tightest(entries, q, b, words, k, false))
 }
 
 // Whether every need is met; `all` are the needs and limits.
@@ -95,14 +96,14 @@ pub fn met(entries: &[u64], q: Question, all: Set, words: &[u64], k: usize) -> b
     requires { ⌜ Few (now words) k × (member all ≡ asking (problemOf (now entries) q)) ⌝ }
     ensures { λ r. ⌜ Answers r (Met (problemOf (now (entries .entry)) q) (slotsOf (now (words .entry)) k)) ⌝ }
 {
-    lack(entries, q, all, words, k) == 0
+    tightest(entries, q, all, words, k, true) == 0
 }
 
 // The set with entry i, if the set of it alone lacks something.
 fn with_unmet(entries: &[u64], q: Question, found: Set, words: &[u64], k: usize, i: usize) -> Set
     requires { ⌜ (i < length (now entries)) × (i < 64) × Few (now words) k ⌝ }
 {
-    if lack_of(entries, q, Set::empty().with(i), words, k, i) == 0 {
+    if left_at(entries, q, Set::empty().with(i), words, k, i, true) == 0 {
         return found;
     }
     found.with(i)
@@ -126,7 +127,7 @@ pub fn unmet(entries: &[u64], q: Question, words: &[u64], k: usize) -> Set
 fn with_used_up(entries: &[u64], q: Question, found: Set, words: &[u64], k: usize, i: usize) -> Set
     requires { ⌜ (i < length (now entries)) × (i < 64) × Few (now words) k × Kept (problemOf (now entries) q) (slotsOf (now words) k) ⌝ }
 {
-    if room_of(entries, q, Set::empty(), words, k, i) == 0 {
+    if left_at(entries, q, Set::empty(), words, k, i, false) == 0 {
         return found.with(i);
     }
     found

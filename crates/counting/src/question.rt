@@ -7,7 +7,7 @@ ghost use Rattle.sets.specs.Set.{member};
 ghost use Rattle.tableau.specs.Wants.{wanted, addedIf};
 ghost use Rattle.tableau.specs.Counting.{bound, speaks, lo, hi};
 ghost use Rattle.tableau.specs.Search.{asking};
-ghost use Rattle.counting.specs.Question.{problemOf, asks, Small, Exceeds, NoNeed, Closed};
+ghost use Rattle.counting.specs.Question.{problemOf, asks, boundOf, Small, Exceeds, NoNeed, Closed};
 use sets::Set;
 use table::entry::Entry;
 use wide::wide_at;
@@ -59,7 +59,7 @@ pub fn less(a: u64, b: u64) -> u64
 }
 
 // How many successors a need asks for: not at most so many is one more.
-pub fn least(e: Entry) -> u64
+fn least(e: Entry) -> u64
     ensures { λ r. ⌜ r ≡ lo e ⌝ }
 {
     let kind = e.kind;
@@ -68,12 +68,19 @@ pub fn least(e: Entry) -> u64
 }
 
 // How many successors a limit allows: not at least so many is one less.
-pub fn most(e: Entry) -> u64
+fn most(e: Entry) -> u64
     ensures { λ r. ⌜ r ≡ hi e ⌝ }
 {
     let kind = e.kind;
     let grade = e.grade as u64;
     if kind == 6 { less(grade, 1) } else { grade }
+}
+
+// How many successors an entry asks for as a need, or else allows as a limit.
+pub fn bound(e: Entry, need: bool) -> u64
+    ensures { λ r. ⌜ r ≡ boundOf need e ⌝ }
+{
+    if need { least(e) } else { most(e) }
 }
 
 // Whether entry i is a need, and entry j a limit that allows fewer.

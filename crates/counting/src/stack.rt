@@ -5,27 +5,24 @@ ghost use lib.ListN.{length};
 ghost use Rattle.semantics.specs.Count.{gain};
 ghost use Rattle.sets.specs.Set.{code};
 ghost use Rattle.sets.specs.Word.{bitAt};
-ghost use Rattle.tableau.specs.Counting.{total};
-ghost use Rattle.tableau.specs.Search.{rowsOf};
-ghost use Rattle.counting.specs.Stack.{slotsOf, slotAt, counts, Few, Put};
+ghost use Rattle.counting.specs.Stack.{slotsOf, counts, tallyOf, Few, Put};
 use packed::word_at;
 use sets::Set;
 
-// Whether a slot counts: those that promise are counted, or those that do not.
-fn counts(promises: bool, promised: bool) -> bool
+// Whether a set counts: those that promise are counted, or those that do not.
+pub fn counts(promises: bool, promised: bool) -> bool
     ensures { λ r. ⌜ r ≡ counts promised promises ⌝ }
 {
     if promised { promises } else { !promises }
 }
 
-// What slot j adds to a tally: its copies or nothing.
-fn share(words: &[u64], j: usize, i: usize, promised: bool) -> u64
-    requires { ⌜ j < 262144 ⌝ }
-    ensures { λ r. ⌜ r ≡ gain (counts promised (bitAt (slotAt (now (words .entry)) j .code) i)) (slotAt (now (words .entry)) j .copies) ⌝ }
+// What the set with a code adds to a tally for entry i: its copies or nothing.
+pub fn share(code: u64, copies: u64, i: usize, promised: bool) -> u64
+    ensures { λ r. ⌜ r ≡ gain (counts promised (bitAt code i)) copies ⌝ }
 {
-    let promises = Set::of_code(word_at(words, 2 * j)).contains(i);
+    let promises = Set::of_code(code).contains(i);
     if counts(promises, promised) {
-        word_at(words, 2 * j + 1)
+        copies
     } else {
         0
     }
@@ -34,12 +31,17 @@ fn share(words: &[u64], j: usize, i: usize, promised: bool) -> u64
 // How many successors are in the first k slots, of those that promise entry i, or of those that do not.
 pub fn tally(words: &[u64], k: usize, i: usize, promised: bool) -> u64
     requires { ⌜ Few (now words) k ⌝ }
-    ensures { λ r. ⌜ r ≡ total (λ row. counts promised (row .promises i)) (rowsOf (slotsOf (now (words .entry)) k)) ⌝ }
+    ensures { λ r. ⌜ r ≡ tallyOf promised i (slotsOf (now (words .entry)) k) ⌝ }
 {
     let mut sum: u64 = 0;
     let mut j = 0;
     while j < k {
-        sum += share(words, j, i, promised);
+        sum += share(
+            word_at(words, 2 * j),
+            word_at(words, 2 * j + 1),
+            i,
+            promised,
+        );
         j += 1;
     }
     sum

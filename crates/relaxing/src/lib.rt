@@ -7,13 +7,12 @@ ghost use Rattle.counting.specs.Stack.{slotsOf};
 ghost use Rattle.listed.specs.Codes.{codesFrom};
 ghost use Rattle.relaxing.specs.Relaxing.{Relaxing, Scratch, SameBelow, RelaxedIs, Seen};
 use copies::completes;
+use counting::bounds;
 use counting::question;
 use counting::question::Question;
-use counting::stack;
 use packed::word_at;
 use sets::Set;
 use simplex::Verdict;
-use table::entry::Entry;
 use weights::refutes;
 use wide::wide_at;
 
@@ -30,15 +29,6 @@ pub enum Relaxed {
 struct Bounds {
     needs: Set,
     limits: Set,
-}
-
-// How many successors an entry asks for as a need, or else allows as a limit.
-fn bound(e: Entry, need: bool) -> u64 {
-    if need {
-        question::least(e)
-    } else {
-        question::most(e)
-    }
 }
 
 // With entry i among the needs, if it lacks anything.
@@ -80,9 +70,7 @@ fn lay_left(
     requires { ⌜ Scratch (now words) slots end × (i < 64) ⌝ }
     ensures { λ r. ⌜ SameBelow end (now (words .entry)) (now (words .exit)) ⌝ }
 {
-    let whole = bound(wide_at(entries, i), need);
-    let used = stack::tally(words, slots, i, need);
-    let left = question::less(whole, used);
+    let left = bounds::left(wide_at(entries, i), words, slots, i, need);
     words[end + i] = left;
     left
 }

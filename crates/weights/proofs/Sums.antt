@@ -13,12 +13,11 @@ use Rattle.semantics.specs.Count.{gain}
 use Rattle.sets.specs.declared.Set.{Set}
 use Rattle.sets.specs.Set.{member, nothing, removed}
 use Rattle.sets.proofs.Words.{bit-high}
-use Rattle.table.specs.declared.entry.Entry.{Entry}
 use Rattle.wide.specs.Wide.{wideAt}
 use Rattle.tableau.specs.Weights.{sum}
 use Rattle.sets.proofs.Tests.{both-parts}
-use Rattle.counting.proofs.Measures.{lo-few, hi-few}
-use Rattle.weights.specs.Weighed.{weightAt, over, boundOf, leftWeight}
+use Rattle.counting.proofs.Measures.{bound-few}
+use Rattle.weights.specs.Weighed.{weightAt, over, leftWeight}
 
 pub sum-same : {f g : ℕ → ℕ} (n : ℕ) → ((i : ℕ) → i < n → f i ≡ g i) → sum f n ≡ sum g n
 unfolding sum
@@ -99,10 +98,6 @@ module _ {f : ℕ → ℕ} {all : ℕ → Bool} {s : ℕ} {rest : ℕ → Bool} 
 
 over-le : (p : ℕ → Bool) (f : ℕ → ℕ) (m : ℕ) → ((i : ℕ) → f i ≤ m) → over p f ≤ m * 64
 over-le p f m h = sum-le m 64 (λ i. gain-le (p i) (h i))
-
-bound-few : (c : Bool) (e : Entry) → e .grade < 4096 → boundOf c e ≤ 4096
-bound-few true e h = lo-few e h
-bound-few false e h = hi-few e h
 
 module _ (words : List ℕ) (from : ℕ) where
   weight-le : (i : ℕ) → weightAt words from i ≤ 1073741824

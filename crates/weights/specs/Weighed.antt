@@ -1,18 +1,17 @@
 -- Weights in lent words, one an entry: what a set of entries weighs, and what the slots leave, weighed.
 use mathlib.Core.Path.{_≡_}
-use mathlib.Core.Bool.{Bool, true, cond}
+use mathlib.Core.Bool.{Bool, true}
 use mathlib.Core.List.{List}
-use Prim.Native.Nat.{ℕ, _+_, _-_, _*_, _/_, _%_, _≤_}
+use Prim.Native.Nat.{ℕ, _+_, _*_, _/_, _%_, _≤_}
 use lib.ListN.{getD}
 use Rattle.semantics.specs.Count.{gain}
 use Rattle.sets.specs.Set.{both, butNot}
 use Rattle.sets.specs.Word.{bitAt}
-use Rattle.table.specs.declared.entry.Entry.{Entry}
 use Rattle.wide.specs.Wide.{wideAt}
-use Rattle.tableau.specs.Counting.{lo, hi, total}
-use Rattle.tableau.specs.Search.{rowsOf, Problem, Asks}
+use Rattle.tableau.specs.Search.{Problem, Asks}
 use Rattle.tableau.specs.Weights.{sum, up}
-use Rattle.counting.specs.Stack.{slotsOf, counts}
+use Rattle.counting.specs.Stack.{slotsOf}
+use Rattle.counting.specs.Bounds.{leftOf}
 
 -- the weight of entry i: the word at from + i, of which only the lower 30 bits count
 abbrev pub weightAt : List ℕ → (from : ℕ) → ℕ → ℕ
@@ -31,13 +30,6 @@ abbrev pub Balanced : List ℕ → (from : ℕ) → (needs limits : ℕ → Bool
 Balanced words from needs limits r c =
     up (over (both needs (bitAt c)) (weightAt words from)) r ≤ over (butNot limits (bitAt c)) (weightAt words from) / r
 
--- how many successors an entry asks for as a need (c true), how many it allows as a limit (c false)
-abbrev pub boundOf : (c : Bool) → Entry → ℕ
-boundOf c e = cond c (lo e) (hi e)
-
--- what entry i lacks behind k slots as a need, the room under it as a limit; and that, weighed
-abbrev pub leftOf : (entries words : List ℕ) (k : ℕ) (c : Bool) → ℕ → ℕ
-leftOf entries words k c i = boundOf c (wideAt entries i) - total (λ row. counts c (row .promises i)) (rowsOf (slotsOf words k))
-
+-- what entry i lacks behind k slots as a need, the room under it as a limit, weighed
 abbrev pub leftWeight : (entries words : List ℕ) (k from : ℕ) (c : Bool) → ℕ → ℕ
-leftWeight entries words k from c i = weightAt words from i * leftOf entries words k c i
+leftWeight entries words k from c i = weightAt words from i * leftOf c (wideAt entries i) i (slotsOf words k)

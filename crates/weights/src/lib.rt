@@ -11,17 +11,16 @@ ghost use Rattle.tableau.specs.Weights.{up};
 ghost use Rattle.counting.specs.Question.{problemOf, Small};
 ghost use Rattle.counting.specs.Stack.{slotsOf, Few};
 ghost use Rattle.listed.specs.Codes.{codesFrom};
-ghost use Rattle.weights.specs.Weighed.{weightAt, over, OnlyAsked, Balanced, boundOf, leftWeight};
+ghost use Rattle.weights.specs.Weighed.{weightAt, over, OnlyAsked, Balanced, leftWeight};
 
 pub mod range;
 
+use counting::bounds;
 use counting::question;
 use counting::question::Question;
-use counting::stack;
 use packed::word_at;
 use sets::Highest;
 use sets::Set;
-use table::entry::Entry;
 use wide::wide_at;
 
 // A quotient, rounded up.
@@ -118,17 +117,6 @@ fn asked(entries: &[u64], q: Question, need: bool) -> Set
     found
 }
 
-// How many successors an entry asks for as a need, or else allows as a limit.
-fn bound(e: Entry, need: bool) -> u64
-    ensures { λ m. ⌜ m ≡ boundOf need e ⌝ }
-{
-    if need {
-        question::least(e)
-    } else {
-        question::most(e)
-    }
-}
-
 // What entry i lacks behind the slots, or else the room under it, by its weight. Slots are counted only where it has one.
 fn left_at(entries: &[u64], words: &[u64], slots: usize, from: usize, i: usize, need: bool) -> u64
     requires { ⌜ Few (now words) slots × (from + 64 ≤ length (now words)) × (i < 64) ⌝ }
@@ -138,9 +126,7 @@ fn left_at(entries: &[u64], words: &[u64], slots: usize, from: usize, i: usize, 
     if w == 0 {
         return 0;
     }
-    let whole = bound(wide_at(entries, i), need);
-    let used = stack::tally(words, slots, i, need);
-    w * question::less(whole, used)
+    w * bounds::left(wide_at(entries, i), words, slots, i, need)
 }
 
 // What the members of a set lack behind the slots, or else the room under them, by their weights.

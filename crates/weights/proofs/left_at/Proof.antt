@@ -11,13 +11,11 @@ returns : tie.Need-returns
 returns c = rw (← c .before .weight .ensures, c .if1 .taken) (sym (zero-mul _))
 
 product : tie.Need-returns-2
-product c =
-    let read = c .before .before .before in
-    rw (c .less .ensures, c .before .before .bound .ensures, c .before .tally .ensures, read .wide-at .ensures, read .before .before .weight .ensures)
+product c = rw (c .left .ensures, c .before .wide-at .ensures, c .before .before .before .weight .ensures)
 
 mul-result : tie.Need-mul-result
 mul-result c =
-    let a = c .before .before .before .before .before .before .before .before .args in
+    let a = c .before .before .before .before .before .before .args in
     record { fits = omega (arith, product c, left-le (a .words .now) (a .from) (a .entries .now) (a .slots) (a .need) (a .i)) }
 
 pub left-at-spec : {M : Type 1} → statement M
@@ -26,8 +24,6 @@ left-at-spec =
     (tie.spec
     (λ c κs. search needs)
     returns
-    (λ c κs. search needs)
-    (λ c κs. search needs)
     (λ c κs. search needs)
     (λ c κs. search needs)
     mul-result

@@ -1,7 +1,7 @@
 -- `bound` meets its contract: one of two.
 use borrow.Author.Needs.{needs}
-use Rattle.weights.proofs.bound.Statement.{statement}
-use Rattle.weights.proofs.bound.Tie as tie
+use Rattle.counting.proofs.question.bound.Statement.{statement}
+use Rattle.counting.proofs.question.bound.Tie as tie
 
 returns : tie.Need-returns
 returns c = rw (c .before .if1 .taken) (c .least .ensures)
