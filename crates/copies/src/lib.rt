@@ -31,8 +31,9 @@ fn amount(
     let mut sum = stack::tally(words, slots, i, promised);
     let mut j = 0;
     while j < k {
+        let code = word_at(words, at + j);
         let copies = word_at(words, from + j) % 65536;
-        sum += stack::share(word_at(words, at + j), copies, i, promised);
+        sum += stack::share(code, copies, i, promised);
         j += 1;
     }
     sum

@@ -4,14 +4,15 @@ use mathlib.Core.Bool.{Bool, true, false, not, and-true, and-false, or-false}
 use mathlib.Core.Logic.{⊎-elim, by-cases}
 use Prim.Native.Nat.{ℕ, suc, _<_, _≤_}
 use native.Mathlib.Nat.{eq-or-lt-of-le, le-of-suc-le-suc, not-suc-le-zero, lt-irrefl}
-use native.Mathlib.Decide.{decLt}
+use native.Mathlib.Decide.{decLt, ℕ-discrete}
 use native.Mathlib.Omega.{arith}
 use borrow.Author.Tests.{eq-eqb, ne-eqb}
+use Rattle.sets.specs.Set.{added}
 use Rattle.table.specs.declared.entry.Entry.{Entry}
 use Rattle.tableau.specs.Wants.{wanted, addedIf}
 use Rattle.tableau.specs.Counting.{bound}
-use Rattle.tableau.specs.Search.{Problem, asking}
-use Rattle.counting.specs.Question.{Small}
+use Rattle.tableau.specs.Search.{Problem, asking, Asks}
+use Rattle.counting.specs.Question.{Small, OnlyAsked}
 
 module _ (yes no : ℕ → Bool) (e : Entry) (i : ℕ) where
   pub bound-least : (c : Bool) → e .kind ≡ 6 → bound yes no e i c ≡ wanted yes no c i
@@ -66,3 +67,8 @@ pub upto-all : (P : Problem) → Small P → {found : ℕ → Bool} → Upto (as
 upto-all P small u =
     fun-ext (λ j. by-cases (decLt j (P .n)) (λ (l : j < P .n). u .below j l)
     (λ (g : ¬ (j < P .n)). let past : P .n ≤ j = omega arith in u .behind j past ∙ sym (asking-none P small j past)))
+
+-- one more that is asked
+pub only-added : {P : Problem} {c : Bool} {p : ℕ → Bool} {i : ℕ} → OnlyAsked P c p → Asks P c i → OnlyAsked P c (added p i)
+only-added {i = i} all here j h =
+    by-cases (ℕ-discrete j i) (λ (e : j ≡ i). rw e here) (λ (ne : ¬ (j ≡ i)). all j (rw (ne-eqb j i ne) at h))

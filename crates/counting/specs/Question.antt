@@ -37,6 +37,10 @@ pub record Small (P : Problem) : Type 0 where
   pub few : P .n ≤ 64
   pub below : (b : Bool) (i : ℕ) → wanted (P .yes) (P .no) b i ≡ true → i < P .n
 
+-- all members are needs (c true); all are limits (c false)
+abbrev pub OnlyAsked : Problem → (c : Bool) → (ℕ → Bool) → Type 0
+OnlyAsked P c p = (i : ℕ) → p i ≡ true → Asks P c i
+
 -- entry i is a need, and entry j a limit that allows fewer
 pub record Exceeds (P : Problem) (i j : ℕ) : Type 0 where
   pub need : Asks P true i

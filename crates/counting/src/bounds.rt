@@ -99,50 +99,52 @@ pub fn met(entries: &[u64], q: Question, all: Set, words: &[u64], k: usize) -> b
     tightest(entries, q, all, words, k, true) == 0
 }
 
-// The set with entry i, if the set of it alone lacks something.
-fn with_unmet(entries: &[u64], q: Question, found: Set, words: &[u64], k: usize, i: usize) -> Set
-    requires { ⌜ (i < length (now entries)) × (i < 64) × Few (now words) k ⌝ }
+// The set with entry i, if that is a need that lacks something, or else a limit that leaves no room.
+fn with_pressing(
+    entries: &[u64],
+    q: Question,
+    found: Set,
+    words: &[u64],
+    k: usize,
+    i: usize,
+    need: bool,
+) -> Set
+    requires { ⌜ (i < 64) × Few (now words) k ⌝ }
 {
-    if left_at(entries, q, Set::empty().with(i), words, k, i, true) == 0 {
+    let e = wide_at(entries, i);
+    if !question::asks(e, q, i, need) {
         return found;
     }
-    found.with(i)
+    let left = left(e, words, k, i, need);
+    let presses = if need { 0 < left } else { left == 0 };
+    if presses { found.with(i) } else { found }
 }
 
-// The needs that lack something. Nothing is promised of them: they only say what to try first.
-pub fn unmet(entries: &[u64], q: Question, words: &[u64], k: usize) -> Set
+// The needs that lack something, or else the limits that leave no room. Nothing is promised of them: they only say what to
+// try first.
+fn pressing(entries: &[u64], q: Question, words: &[u64], k: usize, need: bool) -> Set
     requires { ⌜ (length (now entries) ≤ 64) × Few (now words) k ⌝ }
 {
     let n = entries.len();
     let mut found = Set::empty();
     let mut i = 0;
     while i < n {
-        found = with_unmet(entries, q, found, words, k, i);
+        found = with_pressing(entries, q, found, words, k, i, need);
         i += 1;
     }
     found
 }
 
-// The set with entry i, if that is a limit that leaves no room.
-fn with_used_up(entries: &[u64], q: Question, found: Set, words: &[u64], k: usize, i: usize) -> Set
-    requires { ⌜ (i < length (now entries)) × (i < 64) × Few (now words) k × Kept (problemOf (now entries) q) (slotsOf (now words) k) ⌝ }
+// The needs that lack something.
+pub fn unmet(entries: &[u64], q: Question, words: &[u64], k: usize) -> Set
+    requires { ⌜ (length (now entries) ≤ 64) × Few (now words) k ⌝ }
 {
-    if left_at(entries, q, Set::empty(), words, k, i, false) == 0 {
-        return found.with(i);
-    }
-    found
+    pressing(entries, q, words, k, true)
 }
 
-// The limits that leave no room. Nothing is promised of them either.
+// The limits that leave no room.
 pub fn used_up(entries: &[u64], q: Question, words: &[u64], k: usize) -> Set
     requires { ⌜ (length (now entries) ≤ 64) × Few (now words) k × Kept (problemOf (now entries) q) (slotsOf (now words) k) ⌝ }
 {
-    let n = entries.len();
-    let mut found = Set::empty();
-    let mut i = 0;
-    while i < n {
-        found = with_used_up(entries, q, found, words, k, i);
-        i += 1;
-    }
-    found
+    pressing(entries, q, words, k, false)
 }

@@ -1,13 +1,13 @@
 // What is asked of the successors by one relation: which entries are needs, which are limits, and what they ask for.
 ghost use mathlib.Core.Path.{_≡_};
 ghost use mathlib.Core.Bool.{true, false};
-ghost use Prim.Native.Nat.{ℕ, _-_, _<_};
+ghost use Prim.Native.Nat.{ℕ, _-_, _<_, _≤_};
 ghost use lib.ListN.{length};
 ghost use Rattle.sets.specs.Set.{member};
 ghost use Rattle.tableau.specs.Wants.{wanted, addedIf};
 ghost use Rattle.tableau.specs.Counting.{bound, speaks, lo, hi};
 ghost use Rattle.tableau.specs.Search.{asking};
-ghost use Rattle.counting.specs.Question.{problemOf, asks, boundOf, Small, Exceeds, NoNeed, Closed};
+ghost use Rattle.counting.specs.Question.{problemOf, asks, boundOf, Small, OnlyAsked, Exceeds, NoNeed, Closed};
 use sets::Set;
 use table::entry::Entry;
 use wide::wide_at;
@@ -123,6 +123,33 @@ pub fn asking(entries: &[u64], q: Question) -> Set
     let mut i = 0;
     while i < n {
         found = with_asking(found, wide_at(entries, i), q, i);
+        i += 1;
+    }
+    found
+}
+
+// The set with entry i, if that is a need of the question, or else a limit.
+fn with_asked(entries: &[u64], q: Question, need: bool, found: Set, i: usize) -> Set
+    requires { ⌜ (i < length (now entries)) × (i < 64) × OnlyAsked (problemOf (now entries) q) need (member found) ⌝ }
+    ensures { λ r. ⌜ OnlyAsked (problemOf (now (entries .entry)) q) need (member r) ⌝ }
+{
+    if asks(wide_at(entries, i), q, i, need) {
+        found.with(i)
+    } else {
+        found
+    }
+}
+
+// The needs of the question, or else its limits.
+pub fn asked(entries: &[u64], q: Question, need: bool) -> Set
+    requires { ⌜ length (now entries) ≤ 64 ⌝ }
+    ensures { λ r. ⌜ OnlyAsked (problemOf (now (entries .entry)) q) need (member r) ⌝ }
+{
+    let n = entries.len();
+    let mut found = Set::empty();
+    let mut i = 0;
+    while i < n {
+        found = with_asked(entries, q, need, found, i);
         i += 1;
     }
     found

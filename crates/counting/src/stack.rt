@@ -36,12 +36,9 @@ pub fn tally(words: &[u64], k: usize, i: usize, promised: bool) -> u64
     let mut sum: u64 = 0;
     let mut j = 0;
     while j < k {
-        sum += share(
-            word_at(words, 2 * j),
-            word_at(words, 2 * j + 1),
-            i,
-            promised,
-        );
+        let code = word_at(words, 2 * j);
+        let copies = word_at(words, 2 * j + 1);
+        sum += share(code, copies, i, promised);
         j += 1;
     }
     sum

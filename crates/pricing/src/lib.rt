@@ -5,15 +5,14 @@ ghost use mathlib.Core.Bool.{true};
 ghost use Prim.Native.Nat.{_<_, _≤_};
 ghost use lib.ListN.{length};
 ghost use Rattle.sets.specs.Set.{member, nothing, Within};
-use counting::question;
 use counting::question::Question;
+use counting::question::asked;
 use numbers::max;
 use packed::word_at;
 use sets::Set;
 use simplex::row_weights::Sides;
 use simplex::row_weights::exceeds;
 use std::num;
-use wide::wide_at;
 
 // The needs, the entries that weigh something, the divisor by which weights are rounded, and the weights of all entries: bit b
 // of an entry's weight is in plane b. Greater weights are halved until they fit, and not rounded then.
@@ -100,22 +99,6 @@ pub fn weighing(words: &[u64], from: usize) -> Set {
     found
 }
 
-// The entries that ask as needs.
-fn needs(entries: &[u64], q: Question) -> Set
-    requires { ⌜ length (now entries) ≤ 64 ⌝ }
-{
-    let n = entries.len();
-    let mut found = Set::empty();
-    let mut i: usize = 0;
-    while i < n {
-        if question::asks(wide_at(entries, i), q, i, true) {
-            found = found.with(i);
-        }
-        i += 1;
-    }
-    found
-}
-
 // What the 64 words from a place on say, as weights of the entries, rounded by a divisor.
 pub fn prices_from(entries: &[u64], q: Question, words: &[u64], from: usize, r: u64) -> Prices
     requires { ⌜ length (now entries) ≤ 64 ⌝ }
@@ -124,7 +107,7 @@ pub fn prices_from(entries: &[u64], q: Question, words: &[u64], from: usize, r: 
     let planes = planes_from(words, from, lowest);
     let divisor = if lowest == 0 { r } else { 1 };
     Prices {
-        needs: needs(entries, q),
+        needs: asked(entries, q, true),
         heavy: weighing(words, from),
         divisor,
         planes,

@@ -1,26 +1,19 @@
 -- What is checked, set by set and in sum, is a refutation by weights: of needs and limits, each with the weight of its entry.
 use mathlib.Core.Path.{_≡_, refl, _∙_}
-use mathlib.Core.Logic.{by-cases}
 use mathlib.Core.Bool.{Bool, true, false, not, _&&_}
 use mathlib.Core.List.{List}
 use Prim.Native.Nat.{ℕ, _+_, _*_, _/_, _<_, _≤_}
 use native.Mathlib.Nat.{lt-irrefl, mul-one, mul-zero, zero-mul}
-use native.Mathlib.Decide.{ℕ-discrete}
 use native.Mathlib.Omega.{arith}
-use borrow.Author.Tests.{ne-eqb}
 use Rattle.semantics.specs.Count.{bit, gain}
-use Rattle.sets.specs.Set.{added, both, butNot}
+use Rattle.sets.specs.Set.{both, butNot}
 use Rattle.sets.specs.Word.{bitAt}
-use Rattle.tableau.specs.Search.{Slot, Problem, Asks}
+use Rattle.tableau.specs.Search.{Slot, Problem}
 use Rattle.tableau.specs.Listed.{In}
 use Rattle.tableau.specs.Weights.{sum, up, serves, costs, lack, room, Weighing, Refuted, RefutedWith}
-use Rattle.weights.specs.Weighed.{over, OnlyAsked}
+use Rattle.counting.specs.Question.{OnlyAsked}
+use Rattle.weights.specs.Weighed.{over}
 use Rattle.weights.proofs.Sums.{sum-same, sum-cut}
-
--- one more that is asked
-pub only-added : {P : Problem} {c : Bool} {p : ℕ → Bool} {i : ℕ} → OnlyAsked P c p → Asks P c i → OnlyAsked P c (added p i)
-only-added {i = i} all here j h =
-    by-cases (ℕ-discrete j i) (λ (e : j ≡ i). rw e here) (λ (ne : ¬ (j ≡ i)). all j (rw (ne-eqb j i ne) at h))
 
 gain-both : (a b : Bool) (w : ℕ) → gain a w * bit b ≡ gain (a && b) w
 gain-both true true w = mul-one w

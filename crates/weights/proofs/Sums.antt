@@ -17,6 +17,7 @@ use Rattle.wide.specs.Wide.{wideAt}
 use Rattle.tableau.specs.Weights.{sum}
 use Rattle.sets.proofs.Tests.{both-parts}
 use Rattle.counting.proofs.Measures.{bound-few}
+use Rattle.counting.proofs.Slots.{gain-le}
 use Rattle.weights.specs.Weighed.{weightAt, over, leftWeight}
 
 pub sum-same : {f g : ℕ → ℕ} (n : ℕ) → ((i : ℕ) → i < n → f i ≡ g i) → sum f n ≡ sum g n
@@ -43,10 +44,6 @@ sum-cut {f} {n} (suc m) h l =
     (eq-or-lt-of-le l)
 
 -- ---- member by member
-
-gain-le : (b : Bool) {x m : ℕ} → x ≤ m → gain b x ≤ m
-gain-le true h = h
-gain-le false h = omega arith
 
 sum-removed : (p : ℕ → Bool) (f : ℕ → ℕ) {k : ℕ} (n : ℕ) → p k ≡ true → k < n
     → sum (λ i. gain (p i) (f i)) n ≡ f k + sum (λ i. gain (removed p k i) (f i)) n
@@ -97,7 +94,7 @@ module _ {f : ℕ → ℕ} {all : ℕ → Bool} {s : ℕ} {rest : ℕ → Bool} 
 -- ---- no sum is great
 
 over-le : (p : ℕ → Bool) (f : ℕ → ℕ) (m : ℕ) → ((i : ℕ) → f i ≤ m) → over p f ≤ m * 64
-over-le p f m h = sum-le m 64 (λ i. gain-le (p i) (h i))
+over-le p f m h = sum-le m 64 (λ i. omega (arith, gain-le (p i) (f i), h i))
 
 module _ (words : List ℕ) (from : ℕ) where
   weight-le : (i : ℕ) → weightAt words from i ≤ 1073741824

@@ -1,6 +1,5 @@
 -- Weights in lent words, one an entry: what a set of entries weighs, and what the slots leave, weighed.
-use mathlib.Core.Path.{_≡_}
-use mathlib.Core.Bool.{Bool, true}
+use mathlib.Core.Bool.{Bool}
 use mathlib.Core.List.{List}
 use Prim.Native.Nat.{ℕ, _+_, _*_, _/_, _%_, _≤_}
 use lib.ListN.{getD}
@@ -8,7 +7,6 @@ use Rattle.semantics.specs.Count.{gain}
 use Rattle.sets.specs.Set.{both, butNot}
 use Rattle.sets.specs.Word.{bitAt}
 use Rattle.wide.specs.Wide.{wideAt}
-use Rattle.tableau.specs.Search.{Problem, Asks}
 use Rattle.tableau.specs.Weights.{sum, up}
 use Rattle.counting.specs.Stack.{slotsOf}
 use Rattle.counting.specs.Bounds.{leftOf}
@@ -20,10 +18,6 @@ weightAt words from i = getD words (from + i) 0 % 1073741824
 -- the sum of the numbers f i over the members i of a set
 abbrev pub over : (ℕ → Bool) → (ℕ → ℕ) → ℕ
 over p f = sum (λ i. gain (p i) (f i)) 64
-
--- all members are needs (c true); all are limits (c false)
-abbrev pub OnlyAsked : Problem → (c : Bool) → (ℕ → Bool) → Type 0
-OnlyAsked P c p = (i : ℕ) → p i ≡ true → Asks P c i
 
 -- rounded by r, the set with the code c serves no more of the needs than it costs of the limits
 abbrev pub Balanced : List ℕ → (from : ℕ) → (needs limits : ℕ → Bool) → (r c : ℕ) → Type 0

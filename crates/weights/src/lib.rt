@@ -11,13 +11,13 @@ ghost use Rattle.tableau.specs.Weights.{up};
 ghost use Rattle.counting.specs.Question.{problemOf, Small};
 ghost use Rattle.counting.specs.Stack.{slotsOf, Few};
 ghost use Rattle.listed.specs.Codes.{codesFrom};
-ghost use Rattle.weights.specs.Weighed.{weightAt, over, OnlyAsked, Balanced, leftWeight};
+ghost use Rattle.weights.specs.Weighed.{weightAt, over, Balanced, leftWeight};
 
 pub mod range;
 
 use counting::bounds;
-use counting::question;
 use counting::question::Question;
+use counting::question::asked;
 use packed::word_at;
 use sets::Highest;
 use sets::Set;
@@ -88,33 +88,6 @@ fn all_balanced(
         j += 1;
     }
     true
-}
-
-// The set with entry i, if that is a need of the question, or else a limit.
-fn with_asked(entries: &[u64], q: Question, need: bool, found: Set, i: usize) -> Set
-    requires { ⌜ (i < length (now entries)) × (i < 64) × OnlyAsked (problemOf (now entries) q) need (member found) ⌝ }
-    ensures { λ s. ⌜ OnlyAsked (problemOf (now (entries .entry)) q) need (member s) ⌝ }
-{
-    if question::asks(wide_at(entries, i), q, i, need) {
-        found.with(i)
-    } else {
-        found
-    }
-}
-
-// The needs of the question, or else its limits.
-fn asked(entries: &[u64], q: Question, need: bool) -> Set
-    requires { ⌜ length (now entries) ≤ 64 ⌝ }
-    ensures { λ s. ⌜ OnlyAsked (problemOf (now (entries .entry)) q) need (member s) ⌝ }
-{
-    let n = entries.len();
-    let mut found = Set::empty();
-    let mut i = 0;
-    while i < n {
-        found = with_asked(entries, q, need, found, i);
-        i += 1;
-    }
-    found
 }
 
 // What entry i lacks behind the slots, or else the room under it, by its weight. Slots are counted only where it has one.

@@ -10,10 +10,10 @@ ghost use Rattle.counting.specs.Question.{problemOf, Small};
 ghost use Rattle.counting.specs.Stack.{slotsOf, Few};
 ghost use Rattle.listed.specs.Codes.{codesFrom};
 use crate::all_balanced;
-use crate::asked;
 use crate::left;
 use crate::weigh;
 use counting::question::Question;
+use counting::question::asked;
 use sets::Set;
 
 // Whether more is lacking than there is room for, besides m copies of a set that each serve and cost so much.

@@ -31,8 +31,8 @@ loop-holds c =
 shared-le : (c : tie.After-share Inv-loop μ-loop) → c .share .result ≤ 65536
 shared-le c =
     let a = c .before .before .before .before .before .before .before .args in
-    let code = c .before .word-at2 .result in
-    let copies = c .before .before .word-at .result % 65536 in
+    let code = c .before .before .word-at .result in
+    let copies = c .before .word-at2 .result % 65536 in
     omega (arith, c .share .ensures, gain-le (counts (a .promised) (bitAt code (a .i))) copies)
 
 loop-again : tie.Need-loop-again Inv-loop μ-loop

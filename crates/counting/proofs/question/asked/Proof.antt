@@ -5,10 +5,9 @@ use native.Mathlib.Omega.{arith}
 use lib.ListN.{length}
 use borrow.Author.Needs.{needs}
 use Rattle.sets.specs.Set.{member}
-use Rattle.counting.specs.Question.{problemOf}
-use Rattle.weights.specs.Weighed.{OnlyAsked}
-use Rattle.weights.proofs.asked.Statement.{statement}
-use Rattle.weights.proofs.asked.Tie as tie
+use Rattle.counting.specs.Question.{problemOf, OnlyAsked}
+use Rattle.counting.proofs.question.asked.Statement.{statement}
+use Rattle.counting.proofs.question.asked.Tie as tie
 
 abbrev Inv-loop : tie.InvT-loop
 Inv-loop entries q need n found₀ i₀ found i = (i ≤ length entries) × OnlyAsked (problemOf entries q) need (member found)

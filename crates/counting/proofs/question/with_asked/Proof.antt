@@ -1,10 +1,10 @@
 -- `with_asked` meets its contract: what is put in was asked.
 use mathlib.Core.Path.{sym, _∙_}
 use borrow.Author.Needs.{needs}
 use Rattle.counting.proofs.Measures.{asks-yes}
-use Rattle.weights.proofs.Refuting.{only-added}
-use Rattle.weights.proofs.with_asked.Statement.{statement}
-use Rattle.weights.proofs.with_asked.Tie as tie
+use Rattle.counting.proofs.Asking.{only-added}
+use Rattle.counting.proofs.question.with_asked.Statement.{statement}
+use Rattle.counting.proofs.question.with_asked.Tie as tie
 
 returns : tie.Need-returns
 returns c =
