@@ -1,7 +1,7 @@
 -- What follows without a split. Why: where d is as wanted, one of its parts is as it serves; so if one is not, the other is. Where a
 -- part is so at every world that is as wanted, wanting it takes none of them away.
 use mathlib.Core.Path.{_≡_, refl, sym, ap, _∙_}
-use mathlib.Core.Logic.{_⊎_, inl, inr, ⊎-elim}
+use mathlib.Core.Logic.{_⊎_, ⊎-elim}
 use mathlib.Core.Bool.{Bool, true, false, not, _&&_, _||_, or-true, Bool·not-not, true≢false, false≢true}
 use Prim.Native.Nat.{ℕ, _<_, _≤_}
 use native.Mathlib.Nat.{le-trans}
@@ -14,7 +14,6 @@ use Rattle.semantics.proofs.Count.{count-mono}
 use Rattle.sets.specs.Set.{member, added, removed, butNot}
 use Rattle.sets.specs.Word.{Greatest}
 use Rattle.table.specs.declared.entry.Entry.{Entry}
-use Rattle.semantics.specs.Answer.{Answers}
 use Rattle.table.specs.Formed.{WellFormed}
 use Rattle.table.specs.Formulas.{depthAt}
 use Rattle.tableau.specs.Wants.{truthAt, Meets}

@@ -22,7 +22,7 @@ use Rattle.tableau.proofs.Growth.{meets-fewer, split-settled}
 use Rattle.wants.specs.declared.Wants.{Wants}
 use Rattle.wants.specs.declared.Outcome.{Outcome}
 use Rattle.wants.specs.Outcome.{wantedW, GrowsW, MeetsW, SettledW, Refuted, Asked, Taken, OutcomeIs, Lightened}
-use Rattle.cases.specs.World.{SatW, serving, CaseOf, Ready, Waiting, Branch, BranchIs}
+use Rattle.cases.specs.World.{serving, CaseOf, Ready, Waiting, Branch, BranchIs}
 
 -- the kind of a pending entry says how its parts serve
 serving-is : (b : Bool) (k : ℕ) → k ≡ cond b 5 4 → eqb k 5 ≡ b

@@ -4,7 +4,7 @@ ghost use mathlib.Core.Path.{_≡_};
 ghost use mathlib.Core.Bool.{true};
 ghost use Prim.Native.Nat.{_-_, _≤_};
 ghost use lib.ListN.{length};
-ghost use Rattle.sets.specs.Set.{member, code, Within};
+ghost use Rattle.sets.specs.Set.{member, code};
 ghost use Rattle.listed.specs.Codes.{Inside};
 ghost use Rattle.wide.specs.Wide.{wideAt};
 ghost use Rattle.counting.specs.Question.{problemOf, Small};

@@ -4,7 +4,7 @@ ghost use lib.ListN.{length};
 ghost use mathlib.Core.Path.{_≡_};
 ghost use mathlib.Core.Bool.{true, false};
 ghost use Prim.Native.Nat.{_<_};
-ghost use Rattle.sets.specs.Set.{member, nothing, added};
+ghost use Rattle.sets.specs.Set.{member};
 ghost use Rattle.wide.specs.Wide.{wideAt};
 ghost use Rattle.tableau.specs.Wants.{addedIf};
 ghost use Rattle.counting.specs.Question.{problemOf, asks};

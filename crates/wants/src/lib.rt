@@ -2,7 +2,7 @@
 // `want` wants an entry besides what is wanted: it answers the sets that this comes to once every rule has been applied that
 // leaves no choice, or that no world can be so (known as the non-branching rules of a tableau).
 ghost use mathlib.Core.Path.{_≡_};
-ghost use mathlib.Core.Bool.{true, false, cond};
+ghost use mathlib.Core.Bool.{true, cond};
 ghost use Prim.Native.Nat.{ℕ, _<_};
 ghost use lib.ListN.{length};
 ghost use Rattle.sets.specs.Set.{member};
