@@ -1,6 +1,6 @@
 -- What holds of the search between two steps, and what a step answers: a solution, none, or a set to be decided first.
 use mathlib.Core.Path.{_≡_}
-use mathlib.Core.Bool.{Bool, true, false}
+use mathlib.Core.Bool.{true, cond}
 use mathlib.Core.List.{List}
 use Prim.Native.Nat.{ℕ, suc, _+_, _*_, _<_, _≤_}
 use lib.ListN.{length}
@@ -15,12 +15,8 @@ use Rattle.counting.specs.Question.{Small}
 use Rattle.counting.specs.Stack.{slotsOf, FewCopies}
 
 -- the sets that are yet to be tried are those with codes below this
-abbrev pub boundOf : Bool → Set → ℕ
-boundOf true s = suc (code s)
-boundOf false s = 0
-
 abbrev pub untried : Cursor → ℕ
-untried c = boundOf (c .more) (c .next)
+untried c = cond (c .more) (suc (code (c .next))) 0
 
 -- what is left to be done: it falls with every turn
 abbrev pub toDo : List ℕ → Cursor → ℕ
