@@ -1,5 +1,6 @@
 // What weights that refute a list of sets are worth to sets that are not listed: which promises weigh most, and whether a set
-// would do better than the listed ones. Nothing rests on it: it says what to try next.
+// would do better than the listed ones (known as pricing, a step of column generation). Nothing rests on it: it says what to try
+// next.
 ghost use mathlib.Core.Path.{_≡_};
 ghost use mathlib.Core.Bool.{true};
 ghost use Prim.Native.Nat.{_<_, _≤_};

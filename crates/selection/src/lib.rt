@@ -1,7 +1,7 @@
-// The search for a solution over a list of sets of promises. A linear relaxation of what is left tells that there is none, or
-// finds one, or tells which listed set to take next and how often to take it first; every other number of copies that is of
-// use is tried after that, until weights refute all that are left at once. The search asks nothing. The codes of the list stand
-// in lent words, behind the stack of slots, and the words behind them are there for the relaxation.
+// The search for a solution over a list of sets of promises (known as branch and bound). A linear relaxation of what is left
+// tells that there is none, or finds one, or tells which listed set to take next and how often to take it first; every other
+// number of copies that is of use is tried after that, until weights refute all that are left at once. The search asks nothing.
+// The codes of the list stand in lent words, behind the stack of slots, and the words behind them are there for the relaxation.
 ghost use mathlib.Core.Path.{_≡_};
 ghost use mathlib.Core.Bool.{true};
 ghost use Prim.Native.Nat.{suc, _<_, _≤_};

@@ -1,5 +1,6 @@
-// A check of weights on needs and limits, in lent words: do they refute that copies of listed sets complete the slots?
-// Where the weights come from needs no proof.
+// A check of weights on needs and limits, in lent words: do they refute that copies of listed sets complete the slots? (Known as
+// a Farkas certificate; with a divisor that sums are rounded by, as a Chvátal-Gomory cut.) Where the weights come from needs no
+// proof.
 ghost use mathlib.Core.Path.{_≡_};
 ghost use mathlib.Core.Bool.{true};
 ghost use Prim.Native.Nat.{ℕ, _+_, _<_, _≤_};
