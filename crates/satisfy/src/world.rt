@@ -69,8 +69,9 @@ use wants::Wants;
 pub const ALL: usize = 64;
 
 // Whether some world is as wanted. What is pending is below the bound, and is split from the highest entry down: the first case is
-// looked into, and what is left is the second one. What follows without a split comes first. Relations are asked before the first
-// split only, since one without a solution settles all cases: to ask again at each split costs more than it saves.
+// looked into, and what is left is the second one. What follows without a split comes first (known as propagation). Relations are
+// asked before the first split only, since one without a solution settles all cases: to ask again at each split costs more than it
+// saves.
 pub fn world(
     entries: &[u64],
     w: Wants,
@@ -209,7 +210,7 @@ fn lists(
     ensures { λ r. ⌜ SaidIs (problemOf (now (entries .entry)) q) r × Remembers (wideAt (now (entries .entry))) depth level (now (work .exit)) ⌝ }
 {
     if is_short(all, depth) {
-        match by_core(entries, q, all, depth, level, work) {
+        match by_all(entries, q, all, depth, level, work) {
             Said::Yes => Said::Yes,
             Said::No(s) => Said::No(s),
             Said::Nothing => by_few(entries, q, all, depth, level, work),
@@ -218,14 +219,14 @@ fn lists(
         match by_few(entries, q, all, depth, level, work) {
             Said::Yes => Said::Yes,
             Said::No(s) => Said::No(s),
-            Said::Nothing => by_core(entries, q, all, depth, level, work),
+            Said::Nothing => by_all(entries, q, all, depth, level, work),
         }
     }
 }
 
-// What the list of the largest sets says. If it says no, those entries that are guessed to be the reason are tried alone, so
+// What the list of all the largest sets says. If it says no, those entries that are guessed to be the reason are tried alone, so
 // that more is learnt.
-fn by_core(
+fn by_all(
     entries: &[u64],
     q: Question,
     all: Set,
@@ -407,7 +408,7 @@ fn seed(
     grown(entries, q, two, all, depth, level, work)
 }
 
-// Whether the needs and limits in a set are found to have no solution; that is learnt.
+// Whether the needs and limits in a set are found to have no solution; that is learnt (known as a nogood).
 fn refute(
     entries: &[u64],
     q: Question,
@@ -430,7 +431,7 @@ fn refute(
 }
 
 // Lists sets, each of which stands against the weights that refute those before it: until there are no such weights, or no
-// set is found that stands against them.
+// set is found that stands against them (known as column generation).
 fn columns(
     entries: &[u64],
     q: Question,
@@ -463,7 +464,7 @@ fn columns(
 }
 
 // A set grown by the limits that allow none and then by what weighs most; if it does not pay, one that is grown from an entry
-// that weighs something, whichever pays first.
+// that weighs something, whichever pays first (known as pricing a column).
 fn column(
     entries: &[u64],
     q: Question,
@@ -611,9 +612,9 @@ fn probe(
     }
 }
 
-// Lists the largest sets that can be kept, of those that have all of `low` and beyond that only members of `free`: behind the
-// k that are listed, and but for sets that have no need or are inside a listed one. Where not all can be kept, the members of a
-// core cannot: a set that can be kept leaves out the highest of them, or has it and leaves out another one.
+// Lists the largest sets that can be kept (known as maximal consistent sets), of those that have all of `low` and beyond that only
+// members of `free`: behind the k that are listed, and but for sets that have no need or are inside a listed one. Where not all can
+// be kept, the members of a core cannot: a set that can be kept leaves out the highest of them, or has it and leaves out another one.
 fn largest(
     entries: &[u64],
     q: Question,
@@ -658,7 +659,8 @@ fn largest(
     }
 }
 
-// A part of `free` that cannot be kept beside `low`, where all of it cannot: members are left out as long as that is so.
+// A part of `free` that cannot be kept beside `low`, where all of it cannot (known as an unsatisfiable core): members are left out
+// as long as that is so.
 fn core_of(
     entries: &[u64],
     q: Question,

@@ -98,81 +98,81 @@ use Rattle.sets.proofs.Set.with.Reads as with-reads
 use Rattle.sets.proofs.Set.without.Reads as without-reads
 use Rattle.satisfy.proofs.world.all_met.Reads as all-met
 use Rattle.satisfy.proofs.world.all_met.Kinds as all-met-kinds
-use Rattle.satisfy.proofs.world.+all_met+anew+by_core+by_few+by_list+by_more+column+columns+core_of+deeper+extend+greedy+grown+grown_by+keeps+largest+leaf+lists+one_met+opposed+probe+refute+seed+solve+world.Lts-all_met as all-met-lts
+use Rattle.satisfy.proofs.world.+all_met+anew+by_all+by_few+by_list+by_more+column+columns+core_of+deeper+extend+greedy+grown+grown_by+keeps+largest+leaf+lists+one_met+opposed+probe+refute+seed+solve+world.Lts-all_met as all-met-lts
 use Rattle.satisfy.proofs.world.anew.Reads as anew
 use Rattle.satisfy.proofs.world.anew.Kinds as anew-kinds
-use Rattle.satisfy.proofs.world.+all_met+anew+by_core+by_few+by_list+by_more+column+columns+core_of+deeper+extend+greedy+grown+grown_by+keeps+largest+leaf+lists+one_met+opposed+probe+refute+seed+solve+world.Lts-anew as anew-lts
-use Rattle.satisfy.proofs.world.by_core.Reads as by-core
-use Rattle.satisfy.proofs.world.by_core.Kinds as by-core-kinds
-use Rattle.satisfy.proofs.world.+all_met+anew+by_core+by_few+by_list+by_more+column+columns+core_of+deeper+extend+greedy+grown+grown_by+keeps+largest+leaf+lists+one_met+opposed+probe+refute+seed+solve+world.Lts-by_core as by-core-lts
+use Rattle.satisfy.proofs.world.+all_met+anew+by_all+by_few+by_list+by_more+column+columns+core_of+deeper+extend+greedy+grown+grown_by+keeps+largest+leaf+lists+one_met+opposed+probe+refute+seed+solve+world.Lts-anew as anew-lts
+use Rattle.satisfy.proofs.world.by_all.Reads as by-all
+use Rattle.satisfy.proofs.world.by_all.Kinds as by-all-kinds
+use Rattle.satisfy.proofs.world.+all_met+anew+by_all+by_few+by_list+by_more+column+columns+core_of+deeper+extend+greedy+grown+grown_by+keeps+largest+leaf+lists+one_met+opposed+probe+refute+seed+solve+world.Lts-by_all as by-all-lts
 use Rattle.satisfy.proofs.world.by_few.Reads as by-few
 use Rattle.satisfy.proofs.world.by_few.Kinds as by-few-kinds
-use Rattle.satisfy.proofs.world.+all_met+anew+by_core+by_few+by_list+by_more+column+columns+core_of+deeper+extend+greedy+grown+grown_by+keeps+largest+leaf+lists+one_met+opposed+probe+refute+seed+solve+world.Lts-by_few as by-few-lts
+use Rattle.satisfy.proofs.world.+all_met+anew+by_all+by_few+by_list+by_more+column+columns+core_of+deeper+extend+greedy+grown+grown_by+keeps+largest+leaf+lists+one_met+opposed+probe+refute+seed+solve+world.Lts-by_few as by-few-lts
 use Rattle.satisfy.proofs.world.by_list.Reads as by-list
 use Rattle.satisfy.proofs.world.by_list.Kinds as by-list-kinds
-use Rattle.satisfy.proofs.world.+all_met+anew+by_core+by_few+by_list+by_more+column+columns+core_of+deeper+extend+greedy+grown+grown_by+keeps+largest+leaf+lists+one_met+opposed+probe+refute+seed+solve+world.Lts-by_list as by-list-lts
+use Rattle.satisfy.proofs.world.+all_met+anew+by_all+by_few+by_list+by_more+column+columns+core_of+deeper+extend+greedy+grown+grown_by+keeps+largest+leaf+lists+one_met+opposed+probe+refute+seed+solve+world.Lts-by_list as by-list-lts
 use Rattle.satisfy.proofs.world.by_more.Reads as by-more
 use Rattle.satisfy.proofs.world.by_more.Kinds as by-more-kinds
-use Rattle.satisfy.proofs.world.+all_met+anew+by_core+by_few+by_list+by_more+column+columns+core_of+deeper+extend+greedy+grown+grown_by+keeps+largest+leaf+lists+one_met+opposed+probe+refute+seed+solve+world.Lts-by_more as by-more-lts
+use Rattle.satisfy.proofs.world.+all_met+anew+by_all+by_few+by_list+by_more+column+columns+core_of+deeper+extend+greedy+grown+grown_by+keeps+largest+leaf+lists+one_met+opposed+probe+refute+seed+solve+world.Lts-by_more as by-more-lts
 use Rattle.satisfy.proofs.world.column.Reads as column
 use Rattle.satisfy.proofs.world.column.Kinds as column-kinds
-use Rattle.satisfy.proofs.world.+all_met+anew+by_core+by_few+by_list+by_more+column+columns+core_of+deeper+extend+greedy+grown+grown_by+keeps+largest+leaf+lists+one_met+opposed+probe+refute+seed+solve+world.Lts-column as column-lts
+use Rattle.satisfy.proofs.world.+all_met+anew+by_all+by_few+by_list+by_more+column+columns+core_of+deeper+extend+greedy+grown+grown_by+keeps+largest+leaf+lists+one_met+opposed+probe+refute+seed+solve+world.Lts-column as column-lts
 use Rattle.satisfy.proofs.world.columns.Reads as columns
 use Rattle.satisfy.proofs.world.columns.Kinds as columns-kinds
-use Rattle.satisfy.proofs.world.+all_met+anew+by_core+by_few+by_list+by_more+column+columns+core_of+deeper+extend+greedy+grown+grown_by+keeps+largest+leaf+lists+one_met+opposed+probe+refute+seed+solve+world.Lts-columns as columns-lts
+use Rattle.satisfy.proofs.world.+all_met+anew+by_all+by_few+by_list+by_more+column+columns+core_of+deeper+extend+greedy+grown+grown_by+keeps+largest+leaf+lists+one_met+opposed+probe+refute+seed+solve+world.Lts-columns as columns-lts
 use Rattle.satisfy.proofs.world.core_of.Reads as core-of
 use Rattle.satisfy.proofs.world.core_of.Kinds as core-of-kinds
-use Rattle.satisfy.proofs.world.+all_met+anew+by_core+by_few+by_list+by_more+column+columns+core_of+deeper+extend+greedy+grown+grown_by+keeps+largest+leaf+lists+one_met+opposed+probe+refute+seed+solve+world.Lts-core_of as core-of-lts
+use Rattle.satisfy.proofs.world.+all_met+anew+by_all+by_few+by_list+by_more+column+columns+core_of+deeper+extend+greedy+grown+grown_by+keeps+largest+leaf+lists+one_met+opposed+probe+refute+seed+solve+world.Lts-core_of as core-of-lts
 use Rattle.satisfy.proofs.world.deeper.Reads as deeper
 use Rattle.satisfy.proofs.world.deeper.Kinds as deeper-kinds
-use Rattle.satisfy.proofs.world.+all_met+anew+by_core+by_few+by_list+by_more+column+columns+core_of+deeper+extend+greedy+grown+grown_by+keeps+largest+leaf+lists+one_met+opposed+probe+refute+seed+solve+world.Lts-deeper as deeper-lts
+use Rattle.satisfy.proofs.world.+all_met+anew+by_all+by_few+by_list+by_more+column+columns+core_of+deeper+extend+greedy+grown+grown_by+keeps+largest+leaf+lists+one_met+opposed+probe+refute+seed+solve+world.Lts-deeper as deeper-lts
 use Rattle.satisfy.proofs.world.extend.Reads as extend
 use Rattle.satisfy.proofs.world.extend.Kinds as extend-kinds
-use Rattle.satisfy.proofs.world.+all_met+anew+by_core+by_few+by_list+by_more+column+columns+core_of+deeper+extend+greedy+grown+grown_by+keeps+largest+leaf+lists+one_met+opposed+probe+refute+seed+solve+world.Lts-extend as extend-lts
+use Rattle.satisfy.proofs.world.+all_met+anew+by_all+by_few+by_list+by_more+column+columns+core_of+deeper+extend+greedy+grown+grown_by+keeps+largest+leaf+lists+one_met+opposed+probe+refute+seed+solve+world.Lts-extend as extend-lts
 use Rattle.satisfy.proofs.world.greedy.Reads as greedy
 use Rattle.satisfy.proofs.world.greedy.Kinds as greedy-kinds
-use Rattle.satisfy.proofs.world.+all_met+anew+by_core+by_few+by_list+by_more+column+columns+core_of+deeper+extend+greedy+grown+grown_by+keeps+largest+leaf+lists+one_met+opposed+probe+refute+seed+solve+world.Lts-greedy as greedy-lts
+use Rattle.satisfy.proofs.world.+all_met+anew+by_all+by_few+by_list+by_more+column+columns+core_of+deeper+extend+greedy+grown+grown_by+keeps+largest+leaf+lists+one_met+opposed+probe+refute+seed+solve+world.Lts-greedy as greedy-lts
 use Rattle.satisfy.proofs.world.grown.Reads as grown
 use Rattle.satisfy.proofs.world.grown.Kinds as grown-kinds
-use Rattle.satisfy.proofs.world.+all_met+anew+by_core+by_few+by_list+by_more+column+columns+core_of+deeper+extend+greedy+grown+grown_by+keeps+largest+leaf+lists+one_met+opposed+probe+refute+seed+solve+world.Lts-grown as grown-lts
+use Rattle.satisfy.proofs.world.+all_met+anew+by_all+by_few+by_list+by_more+column+columns+core_of+deeper+extend+greedy+grown+grown_by+keeps+largest+leaf+lists+one_met+opposed+probe+refute+seed+solve+world.Lts-grown as grown-lts
 use Rattle.satisfy.proofs.world.grown_by.Reads as grown-by
 use Rattle.satisfy.proofs.world.grown_by.Kinds as grown-by-kinds
-use Rattle.satisfy.proofs.world.+all_met+anew+by_core+by_few+by_list+by_more+column+columns+core_of+deeper+extend+greedy+grown+grown_by+keeps+largest+leaf+lists+one_met+opposed+probe+refute+seed+solve+world.Lts-grown_by as grown-by-lts
+use Rattle.satisfy.proofs.world.+all_met+anew+by_all+by_few+by_list+by_more+column+columns+core_of+deeper+extend+greedy+grown+grown_by+keeps+largest+leaf+lists+one_met+opposed+probe+refute+seed+solve+world.Lts-grown_by as grown-by-lts
 use Rattle.satisfy.proofs.world.keeps.Reads as keeps
 use Rattle.satisfy.proofs.world.keeps.Kinds as keeps-kinds
-use Rattle.satisfy.proofs.world.+all_met+anew+by_core+by_few+by_list+by_more+column+columns+core_of+deeper+extend+greedy+grown+grown_by+keeps+largest+leaf+lists+one_met+opposed+probe+refute+seed+solve+world.Lts-keeps as keeps-lts
+use Rattle.satisfy.proofs.world.+all_met+anew+by_all+by_few+by_list+by_more+column+columns+core_of+deeper+extend+greedy+grown+grown_by+keeps+largest+leaf+lists+one_met+opposed+probe+refute+seed+solve+world.Lts-keeps as keeps-lts
 use Rattle.satisfy.proofs.world.largest.Reads as largest
 use Rattle.satisfy.proofs.world.largest.Kinds as largest-kinds
-use Rattle.satisfy.proofs.world.+all_met+anew+by_core+by_few+by_list+by_more+column+columns+core_of+deeper+extend+greedy+grown+grown_by+keeps+largest+leaf+lists+one_met+opposed+probe+refute+seed+solve+world.Lts-largest as largest-lts
+use Rattle.satisfy.proofs.world.+all_met+anew+by_all+by_few+by_list+by_more+column+columns+core_of+deeper+extend+greedy+grown+grown_by+keeps+largest+leaf+lists+one_met+opposed+probe+refute+seed+solve+world.Lts-largest as largest-lts
 use Rattle.satisfy.proofs.world.leaf.Reads as leaf
 use Rattle.satisfy.proofs.world.leaf.Kinds as leaf-kinds
-use Rattle.satisfy.proofs.world.+all_met+anew+by_core+by_few+by_list+by_more+column+columns+core_of+deeper+extend+greedy+grown+grown_by+keeps+largest+leaf+lists+one_met+opposed+probe+refute+seed+solve+world.Lts-leaf as leaf-lts
+use Rattle.satisfy.proofs.world.+all_met+anew+by_all+by_few+by_list+by_more+column+columns+core_of+deeper+extend+greedy+grown+grown_by+keeps+largest+leaf+lists+one_met+opposed+probe+refute+seed+solve+world.Lts-leaf as leaf-lts
 use Rattle.satisfy.proofs.world.lists.Reads as lists
 use Rattle.satisfy.proofs.world.lists.Kinds as lists-kinds
-use Rattle.satisfy.proofs.world.+all_met+anew+by_core+by_few+by_list+by_more+column+columns+core_of+deeper+extend+greedy+grown+grown_by+keeps+largest+leaf+lists+one_met+opposed+probe+refute+seed+solve+world.Lts-lists as lists-lts
+use Rattle.satisfy.proofs.world.+all_met+anew+by_all+by_few+by_list+by_more+column+columns+core_of+deeper+extend+greedy+grown+grown_by+keeps+largest+leaf+lists+one_met+opposed+probe+refute+seed+solve+world.Lts-lists as lists-lts
 use Rattle.satisfy.proofs.world.one_met.Reads as one-met
 use Rattle.satisfy.proofs.world.one_met.Kinds as one-met-kinds
-use Rattle.satisfy.proofs.world.+all_met+anew+by_core+by_few+by_list+by_more+column+columns+core_of+deeper+extend+greedy+grown+grown_by+keeps+largest+leaf+lists+one_met+opposed+probe+refute+seed+solve+world.Lts-one_met as one-met-lts
+use Rattle.satisfy.proofs.world.+all_met+anew+by_all+by_few+by_list+by_more+column+columns+core_of+deeper+extend+greedy+grown+grown_by+keeps+largest+leaf+lists+one_met+opposed+probe+refute+seed+solve+world.Lts-one_met as one-met-lts
 use Rattle.satisfy.proofs.world.opposed.Reads as opposed
 use Rattle.satisfy.proofs.world.opposed.Kinds as opposed-kinds
-use Rattle.satisfy.proofs.world.+all_met+anew+by_core+by_few+by_list+by_more+column+columns+core_of+deeper+extend+greedy+grown+grown_by+keeps+largest+leaf+lists+one_met+opposed+probe+refute+seed+solve+world.Lts-opposed as opposed-lts
+use Rattle.satisfy.proofs.world.+all_met+anew+by_all+by_few+by_list+by_more+column+columns+core_of+deeper+extend+greedy+grown+grown_by+keeps+largest+leaf+lists+one_met+opposed+probe+refute+seed+solve+world.Lts-opposed as opposed-lts
 use Rattle.satisfy.proofs.world.probe.Reads as probe
 use Rattle.satisfy.proofs.world.probe.Kinds as probe-kinds
-use Rattle.satisfy.proofs.world.+all_met+anew+by_core+by_few+by_list+by_more+column+columns+core_of+deeper+extend+greedy+grown+grown_by+keeps+largest+leaf+lists+one_met+opposed+probe+refute+seed+solve+world.Lts-probe as probe-lts
+use Rattle.satisfy.proofs.world.+all_met+anew+by_all+by_few+by_list+by_more+column+columns+core_of+deeper+extend+greedy+grown+grown_by+keeps+largest+leaf+lists+one_met+opposed+probe+refute+seed+solve+world.Lts-probe as probe-lts
 use Rattle.satisfy.proofs.world.refute.Reads as refute
 use Rattle.satisfy.proofs.world.refute.Kinds as refute-kinds
-use Rattle.satisfy.proofs.world.+all_met+anew+by_core+by_few+by_list+by_more+column+columns+core_of+deeper+extend+greedy+grown+grown_by+keeps+largest+leaf+lists+one_met+opposed+probe+refute+seed+solve+world.Lts-refute as refute-lts
+use Rattle.satisfy.proofs.world.+all_met+anew+by_all+by_few+by_list+by_more+column+columns+core_of+deeper+extend+greedy+grown+grown_by+keeps+largest+leaf+lists+one_met+opposed+probe+refute+seed+solve+world.Lts-refute as refute-lts
 use Rattle.satisfy.proofs.world.seed.Reads as seed
 use Rattle.satisfy.proofs.world.seed.Kinds as seed-kinds
-use Rattle.satisfy.proofs.world.+all_met+anew+by_core+by_few+by_list+by_more+column+columns+core_of+deeper+extend+greedy+grown+grown_by+keeps+largest+leaf+lists+one_met+opposed+probe+refute+seed+solve+world.Lts-seed as seed-lts
+use Rattle.satisfy.proofs.world.+all_met+anew+by_all+by_few+by_list+by_more+column+columns+core_of+deeper+extend+greedy+grown+grown_by+keeps+largest+leaf+lists+one_met+opposed+probe+refute+seed+solve+world.Lts-seed as seed-lts
 use Rattle.satisfy.proofs.world.solve.Reads as solve
 use Rattle.satisfy.proofs.world.solve.Kinds as solve-kinds
-use Rattle.satisfy.proofs.world.+all_met+anew+by_core+by_few+by_list+by_more+column+columns+core_of+deeper+extend+greedy+grown+grown_by+keeps+largest+leaf+lists+one_met+opposed+probe+refute+seed+solve+world.Lts-solve as solve-lts
+use Rattle.satisfy.proofs.world.+all_met+anew+by_all+by_few+by_list+by_more+column+columns+core_of+deeper+extend+greedy+grown+grown_by+keeps+largest+leaf+lists+one_met+opposed+probe+refute+seed+solve+world.Lts-solve as solve-lts
 use Rattle.satisfy.proofs.world.world.Reads as world
 use Rattle.satisfy.proofs.world.world.Kinds as world-kinds
-use Rattle.satisfy.proofs.world.+all_met+anew+by_core+by_few+by_list+by_more+column+columns+core_of+deeper+extend+greedy+grown+grown_by+keeps+largest+leaf+lists+one_met+opposed+probe+refute+seed+solve+world.Lts-world as world-lts
-use Rattle.satisfy.proofs.world.+all_met+anew+by_core+by_few+by_list+by_more+column+columns+core_of+deeper+extend+greedy+grown+grown_by+keeps+largest+leaf+lists+one_met+opposed+probe+refute+seed+solve+world.{statement}
-use Rattle.satisfy.proofs.world.+all_met+anew+by_core+by_few+by_list+by_more+column+columns+core_of+deeper+extend+greedy+grown+grown_by+keeps+largest+leaf+lists+one_met+opposed+probe+refute+seed+solve+world.Tie.{close}
+use Rattle.satisfy.proofs.world.+all_met+anew+by_all+by_few+by_list+by_more+column+columns+core_of+deeper+extend+greedy+grown+grown_by+keeps+largest+leaf+lists+one_met+opposed+probe+refute+seed+solve+world.Lts-world as world-lts
+use Rattle.satisfy.proofs.world.+all_met+anew+by_all+by_few+by_list+by_more+column+columns+core_of+deeper+extend+greedy+grown+grown_by+keeps+largest+leaf+lists+one_met+opposed+probe+refute+seed+solve+world.{statement}
+use Rattle.satisfy.proofs.world.+all_met+anew+by_all+by_few+by_list+by_more+column+columns+core_of+deeper+extend+greedy+grown+grown_by+keeps+largest+leaf+lists+one_met+opposed+probe+refute+seed+solve+world.Tie.{close}
 
 -- The measure falls with the depth; within a world, with the bound on what is pending; and in a list, with the promises that are free.
 abbrev μ-all-met : Measures 2 all-met-kinds.ps ℕ
@@ -181,8 +181,8 @@ abbrev μ-all-met : Measures 2 all-met-kinds.ps ℕ
 abbrev μ-anew : Measures 2 anew-kinds.ps ℕ
 μ-anew κs a = a .1 .1 .1 .0 * 1024 + 7
 
-abbrev μ-by-core : Measures 2 by-core-kinds.ps ℕ
-μ-by-core κs a = a .1 .1 .1 .0 * 1024 + 403
+abbrev μ-by-all : Measures 2 by-all-kinds.ps ℕ
+μ-by-all κs a = a .1 .1 .1 .0 * 1024 + 403
 
 abbrev μ-by-few : Measures 2 by-few-kinds.ps ℕ
 μ-by-few κs a = a .1 .1 .1 .0 * 1024 + 403
@@ -262,11 +262,11 @@ anew-at t = and 2 anew-kinds.ps (is 2 anew-kinds.ps μ-anew t) anew.Pre
 abbrev anew-below : ℕ → In 2 anew-kinds.ps
 anew-below t = and 2 anew-kinds.ps (falls 2 anew-kinds.ps _<_ μ-anew t) anew.Pre
 
-abbrev by-core-at : ℕ → In 2 by-core-kinds.ps
-by-core-at t = and 2 by-core-kinds.ps (is 2 by-core-kinds.ps μ-by-core t) by-core.Pre
+abbrev by-all-at : ℕ → In 2 by-all-kinds.ps
+by-all-at t = and 2 by-all-kinds.ps (is 2 by-all-kinds.ps μ-by-all t) by-all.Pre
 
-abbrev by-core-below : ℕ → In 2 by-core-kinds.ps
-by-core-below t = and 2 by-core-kinds.ps (falls 2 by-core-kinds.ps _<_ μ-by-core t) by-core.Pre
+abbrev by-all-below : ℕ → In 2 by-all-kinds.ps
+by-all-below t = and 2 by-all-kinds.ps (falls 2 by-all-kinds.ps _<_ μ-by-all t) by-all.Pre
 
 abbrev by-few-at : ℕ → In 2 by-few-kinds.ps
 by-few-at t = and 2 by-few-kinds.ps (is 2 by-few-kinds.ps μ-by-few t) by-few.Pre
@@ -409,8 +409,8 @@ abbrev anew-calls : ℕ → anew-lts.Claims
 anew-calls t =
     (highest-reads.Asked, highest-reads.Learnt, without-reads.Asked, without-reads.Learnt, greedy-below t, greedy.Post)
 
-abbrev by-core-calls : ℕ → by-core-lts.Claims
-by-core-calls t =
+abbrev by-all-calls : ℕ → by-all-lts.Claims
+by-all-calls t =
     (by-list-below t, by-list.Post, minus-reads.Asked, minus-reads.Learnt, is-empty-reads.Asked, is-empty-reads.Learnt, refute-below t, refute.Post)
 
 abbrev by-few-calls : ℕ → by-few-lts.Claims
@@ -471,7 +471,7 @@ leaf-calls t =
 
 abbrev lists-calls : ℕ → lists-lts.Claims
 lists-calls t =
-    (is-short-reads.Asked, is-short-reads.Learnt, by-core-below t, by-core.Post, by-few-below t, by-few.Post)
+    (is-short-reads.Asked, is-short-reads.Learnt, by-all-below t, by-all.Post, by-few-below t, by-few.Post)
 
 abbrev one-met-calls : ℕ → one-met-lts.Claims
 one-met-calls t =
@@ -820,32 +820,32 @@ solve-returns-6 t c = c .before .before .probe .ensures
 
 -- ---- lists
 
-lists-by-core-requires : (t : ℕ) → lists-lts.Need-by-core-requires (lists-calls t) (lists-at t) lists.Post
-lists-by-core-requires t c κs = (omega (arith, c .before .before .before .before .before .pre .0), c .before .before .before .before .before .pre .1)
+lists-by-all-requires : (t : ℕ) → lists-lts.Need-by-all-requires (lists-calls t) (lists-at t) lists.Post
+lists-by-all-requires t c κs = (omega (arith, c .before .before .before .before .before .pre .0), c .before .before .before .before .before .pre .1)
 
 lists-by-few-requires : (t : ℕ) → lists-lts.Need-by-few-requires (lists-calls t) (lists-at t) lists.Post
-lists-by-few-requires t c κs = (omega (arith, c .before .before .before .before .before .before .before .before .before .before .before .pre .0), problem-kept (c .before .before .before .before .before .before .before .before .before .before .before .pre .1) (c .before .before .before .before .before .by-core .kept .1 .1 .1 .1 .1 .0) (c .before .before .before .before .before .by-core .ensures .1))
+lists-by-few-requires t c κs = (omega (arith, c .before .before .before .before .before .before .before .before .before .before .before .pre .0), problem-kept (c .before .before .before .before .before .before .before .before .before .before .before .pre .1) (c .before .before .before .before .before .by-all .kept .1 .1 .1 .1 .1 .0) (c .before .before .before .before .before .by-all .ensures .1))
 
 lists-by-few-requires-2 : (t : ℕ) → lists-lts.Need-by-few-requires-2 (lists-calls t) (lists-at t) lists.Post
 lists-by-few-requires-2 t c κs = (omega (arith, c .before .before .before .before .before .pre .0), c .before .before .before .before .before .pre .1)
 
-lists-by-core-requires-2 : (t : ℕ) → lists-lts.Need-by-core-requires-2 (lists-calls t) (lists-at t) lists.Post
-lists-by-core-requires-2 t c κs = (omega (arith, c .before .before .before .before .before .before .before .before .before .before .before .pre .0), problem-kept (c .before .before .before .before .before .before .before .before .before .before .before .pre .1) (c .before .before .before .before .before .by-few2 .kept .1 .1 .1 .1 .1 .0) (c .before .before .before .before .before .by-few2 .ensures .1))
+lists-by-all-requires-2 : (t : ℕ) → lists-lts.Need-by-all-requires-2 (lists-calls t) (lists-at t) lists.Post
+lists-by-all-requires-2 t c κs = (omega (arith, c .before .before .before .before .before .before .before .before .before .before .before .pre .0), problem-kept (c .before .before .before .before .before .before .before .before .before .before .before .pre .1) (c .before .before .before .before .before .by-few2 .kept .1 .1 .1 .1 .1 .0) (c .before .before .before .before .before .by-few2 .ensures .1))
 
 lists-same-length : (t : ℕ) → lists-lts.Need-same-length (lists-calls t) (lists-at t) lists.Post
-lists-same-length t c = c .before .before .before .before .by-core .kept .1 .1 .1 .1 .1 .0
+lists-same-length t c = c .before .before .before .before .by-all .kept .1 .1 .1 .1 .1 .0
 
 lists-returns : (t : ℕ) → lists-lts.Need-returns (lists-calls t) (lists-at t) lists.Post
-lists-returns t c = rw (c .enum-told .given .1) at (c .before .before .before .before .by-core .ensures)
+lists-returns t c = rw (c .enum-told .given .1) at (c .before .before .before .before .by-all .ensures)
 
 lists-same-length-2 : (t : ℕ) → lists-lts.Need-same-length-2 (lists-calls t) (lists-at t) lists.Post
-lists-same-length-2 t c = c .before .before .before .before .before .by-core .kept .1 .1 .1 .1 .1 .0
+lists-same-length-2 t c = c .before .before .before .before .before .by-all .kept .1 .1 .1 .1 .1 .0
 
 lists-returns-2 : (t : ℕ) → lists-lts.Need-returns-2 (lists-calls t) (lists-at t) lists.Post
-lists-returns-2 t c = rw (c .before .s .given .1) at (c .before .before .before .before .before .by-core .ensures)
+lists-returns-2 t c = rw (c .before .s .given .1) at (c .before .before .before .before .before .by-all .ensures)
 
 lists-same-length-3 : (t : ℕ) → lists-lts.Need-same-length-3 (lists-calls t) (lists-at t) lists.Post
-lists-same-length-3 t c = c .before .before .by-few .kept .1 .1 .1 .1 .1 .0 ∙ c .before .before .before .before .before .before .before .before .by-core .kept .1 .1 .1 .1 .1 .0
+lists-same-length-3 t c = c .before .before .by-few .kept .1 .1 .1 .1 .1 .0 ∙ c .before .before .before .before .before .before .before .before .by-all .kept .1 .1 .1 .1 .1 .0
 
 lists-returns-3 : (t : ℕ) → lists-lts.Need-returns-3 (lists-calls t) (lists-at t) lists.Post
 lists-returns-3 t c = c .before .before .by-few .ensures
@@ -863,18 +863,18 @@ lists-returns-5 : (t : ℕ) → lists-lts.Need-returns-5 (lists-calls t) (lists-
 lists-returns-5 t c = rw (c .before .s2 .given .1) at (c .before .before .before .before .before .by-few2 .ensures)
 
 lists-same-length-6 : (t : ℕ) → lists-lts.Need-same-length-6 (lists-calls t) (lists-at t) lists.Post
-lists-same-length-6 t c = c .before .before .by-core2 .kept .1 .1 .1 .1 .1 .0 ∙ c .before .before .before .before .before .before .before .before .by-few2 .kept .1 .1 .1 .1 .1 .0
+lists-same-length-6 t c = c .before .before .by-all2 .kept .1 .1 .1 .1 .1 .0 ∙ c .before .before .before .before .before .before .before .before .by-few2 .kept .1 .1 .1 .1 .1 .0
 
 lists-returns-6 : (t : ℕ) → lists-lts.Need-returns-6 (lists-calls t) (lists-at t) lists.Post
-lists-returns-6 t c = c .before .before .by-core2 .ensures
+lists-returns-6 t c = c .before .before .by-all2 .ensures
 
--- ---- by_core
+-- ---- by_all
 
-by-core-by-list-requires : (t : ℕ) → by-core-lts.Need-by-list-requires (by-core-calls t) (by-core-at t) by-core.Post
-by-core-by-list-requires t c κs = (omega (arith, c .before .before .before .pre .0), c .before .before .before .pre .1)
+by-all-by-list-requires : (t : ℕ) → by-all-lts.Need-by-list-requires (by-all-calls t) (by-all-at t) by-all.Post
+by-all-by-list-requires t c κs = (omega (arith, c .before .before .before .pre .0), c .before .before .before .pre .1)
 
-by-core-refute-requires : (t : ℕ) → by-core-lts.Need-refute-requires (by-core-calls t) (by-core-at t) by-core.Post
-by-core-refute-requires t c κs =
+by-all-refute-requires : (t : ℕ) → by-all-lts.Need-refute-requires (by-all-calls t) (by-all-at t) by-all.Post
+by-all-refute-requires t c κs =
     let asked = c .before .before .before .before .before .before .before .before .before .before .before .before .before .pre .1 in (
       omega (arith, c .before .before .before .before .before .before .before .before .before .before .before .before .before .pre .0),
       record {
@@ -885,29 +885,29 @@ by-core-refute-requires t c κs =
       },
     )
 
-by-core-same-length : (t : ℕ) → by-core-lts.Need-same-length (by-core-calls t) (by-core-at t) by-core.Post
-by-core-same-length t c = c .before .before .refute .kept .1 .1 .1 .1 .1 .0 ∙ c .before .before .before .before .before .before .before .before .before .before .before .before .by-list .kept .1 .1 .1 .1 .1 .0
+by-all-same-length : (t : ℕ) → by-all-lts.Need-same-length (by-all-calls t) (by-all-at t) by-all.Post
+by-all-same-length t c = c .before .before .refute .kept .1 .1 .1 .1 .1 .0 ∙ c .before .before .before .before .before .before .before .before .before .before .before .before .by-list .kept .1 .1 .1 .1 .1 .0
 
-by-core-returns : (t : ℕ) → by-core-lts.Need-returns (by-core-calls t) (by-core-at t) by-core.Post
-by-core-returns t c = (rw (c .before .before .before .before .before .before .before .before .s .given .1) at (c .before .before .before .before .before .before .before .before .before .before .before .before .by-list .ensures .0), c .before .before .refute .ensures .1)
+by-all-returns : (t : ℕ) → by-all-lts.Need-returns (by-all-calls t) (by-all-at t) by-all.Post
+by-all-returns t c = (rw (c .before .before .before .before .before .before .before .before .s .given .1) at (c .before .before .before .before .before .before .before .before .before .before .before .before .by-list .ensures .0), c .before .before .refute .ensures .1)
 
-by-core-same-length-2 : (t : ℕ) → by-core-lts.Need-same-length-2 (by-core-calls t) (by-core-at t) by-core.Post
-by-core-same-length-2 t c = c .before .before .before .before .before .before .before .before .by-list .kept .1 .1 .1 .1 .1 .0
+by-all-same-length-2 : (t : ℕ) → by-all-lts.Need-same-length-2 (by-all-calls t) (by-all-at t) by-all.Post
+by-all-same-length-2 t c = c .before .before .before .before .before .before .before .before .by-list .kept .1 .1 .1 .1 .1 .0
 
-by-core-returns-2 : (t : ℕ) → by-core-lts.Need-returns-2 (by-core-calls t) (by-core-at t) by-core.Post
-by-core-returns-2 t c = rw (c .before .before .before .before .s .given .1) at (c .before .before .before .before .before .before .before .before .by-list .ensures)
+by-all-returns-2 : (t : ℕ) → by-all-lts.Need-returns-2 (by-all-calls t) (by-all-at t) by-all.Post
+by-all-returns-2 t c = rw (c .before .before .before .before .s .given .1) at (c .before .before .before .before .before .before .before .before .by-list .ensures)
 
-by-core-same-length-3 : (t : ℕ) → by-core-lts.Need-same-length-3 (by-core-calls t) (by-core-at t) by-core.Post
-by-core-same-length-3 t c = c .before .before .before .before .by-list .kept .1 .1 .1 .1 .1 .0
+by-all-same-length-3 : (t : ℕ) → by-all-lts.Need-same-length-3 (by-all-calls t) (by-all-at t) by-all.Post
+by-all-same-length-3 t c = c .before .before .before .before .by-list .kept .1 .1 .1 .1 .1 .0
 
-by-core-returns-3 : (t : ℕ) → by-core-lts.Need-returns-3 (by-core-calls t) (by-core-at t) by-core.Post
-by-core-returns-3 t c = rw (c .enum-told .given .1) at (c .before .before .before .before .by-list .ensures)
+by-all-returns-3 : (t : ℕ) → by-all-lts.Need-returns-3 (by-all-calls t) (by-all-at t) by-all.Post
+by-all-returns-3 t c = rw (c .enum-told .given .1) at (c .before .before .before .before .by-list .ensures)
 
-by-core-same-length-4 : (t : ℕ) → by-core-lts.Need-same-length-4 (by-core-calls t) (by-core-at t) by-core.Post
-by-core-same-length-4 t c = c .before .before .before .before .by-list .kept .1 .1 .1 .1 .1 .0
+by-all-same-length-4 : (t : ℕ) → by-all-lts.Need-same-length-4 (by-all-calls t) (by-all-at t) by-all.Post
+by-all-same-length-4 t c = c .before .before .before .before .by-list .kept .1 .1 .1 .1 .1 .0
 
-by-core-returns-4 : (t : ℕ) → by-core-lts.Need-returns-4 (by-core-calls t) (by-core-at t) by-core.Post
-by-core-returns-4 t c = rw (c .enum-told2 .given .1) at (c .before .before .before .before .by-list .ensures)
+by-all-returns-4 : (t : ℕ) → by-all-lts.Need-returns-4 (by-all-calls t) (by-all-at t) by-all.Post
+by-all-returns-4 t c = rw (c .enum-told2 .given .1) at (c .before .before .before .before .by-list .ensures)
 
 -- ---- by_list
 
@@ -2412,13 +2412,13 @@ deeper-world-requires t c κs =
       },
     )
 
-pub +all-met+anew+by-core+by-few+by-list+by-more+column+columns+core-of+deeper+extend+greedy+grown+grown-by+keeps+largest+leaf+lists+one-met+opposed+probe+refute+seed+solve+world-spec :
+pub +all-met+anew+by-all+by-few+by-list+by-more+column+columns+core-of+deeper+extend+greedy+grown+grown-by+keeps+largest+leaf+lists+one-met+opposed+probe+refute+seed+solve+world-spec :
     {M : Type 1} → statement M
-+all-met+anew+by-core+by-few+by-list+by-more+column+columns+core-of+deeper+extend+greedy+grown+grown-by+keeps+largest+leaf+lists+one-met+opposed+probe+refute+seed+solve+world-spec =
++all-met+anew+by-all+by-few+by-list+by-more+column+columns+core-of+deeper+extend+greedy+grown+grown-by+keeps+largest+leaf+lists+one-met+opposed+probe+refute+seed+solve+world-spec =
     close
     μ-all-met
     μ-anew
-    μ-by-core
+    μ-by-all
     μ-by-few
     μ-by-list
     μ-by-more
@@ -2470,22 +2470,22 @@ pub +all-met+anew+by-core+by-few+by-list+by-more+column+columns+core-of+deeper+e
     (anew-returns-2 t)
     (anew-loop-less t)
     (anew-loop-again t))
-    (λ t. by-core-lts.spec (by-core-calls t) (by-core-at t) by-core.Post
-    (by-core-by-list-requires t)
+    (λ t. by-all-lts.spec (by-all-calls t) (by-all-at t) by-all.Post
+    (by-all-by-list-requires t)
     (λ c. search needs)
     (λ c κs. search needs)
     (λ c κs. search needs)
-    (by-core-refute-requires t)
+    (by-all-refute-requires t)
     (λ c. search needs)
     (λ c. search needs)
-    (by-core-same-length t)
-    (by-core-returns t)
-    (by-core-same-length-2 t)
-    (by-core-returns-2 t)
-    (by-core-same-length-3 t)
-    (by-core-returns-3 t)
-    (by-core-same-length-4 t)
-    (by-core-returns-4 t))
+    (by-all-same-length t)
+    (by-all-returns t)
+    (by-all-same-length-2 t)
+    (by-all-returns-2 t)
+    (by-all-same-length-3 t)
+    (by-all-returns-3 t)
+    (by-all-same-length-4 t)
+    (by-all-returns-4 t))
     (λ t. by-few-lts.spec (by-few-calls t) (by-few-at t) by-few.Post
     (by-few-columns-requires t)
     (λ c. search needs)
@@ -2713,7 +2713,7 @@ pub +all-met+anew+by-core+by-few+by-list+by-more+column+columns+core-of+deeper+e
     (leaf-returns-2 t))
     (λ t. lists-lts.spec (lists-calls t) (lists-at t) lists.Post
     (λ c κs. search needs)
-    (lists-by-core-requires t)
+    (lists-by-all-requires t)
     (λ c. search needs)
     (λ c. search needs)
     (λ c. search needs)
@@ -2722,7 +2722,7 @@ pub +all-met+anew+by-core+by-few+by-list+by-more+column+columns+core-of+deeper+e
     (λ c. search needs)
     (λ c. search needs)
     (λ c. search needs)
-    (lists-by-core-requires-2 t)
+    (lists-by-all-requires-2 t)
     (lists-same-length t)
     (lists-returns t)
     (lists-same-length-2 t)
