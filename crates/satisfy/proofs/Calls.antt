@@ -32,7 +32,11 @@ use Rattle.cases.specs.Levels.{Roomy, Remembers}
 use Rattle.promises.specs.Promise.{Promising, Promised}
 use Rattle.promises.specs.Relation.{counting, Bounded, QuestionOf}
 use Rattle.promises.proofs.Promises.{counting-depth}
+use Rattle.promises.specs.Listing.{Lists, SelectAsked}
 use Rattle.satisfy.specs.Asking.{ProblemAsked}
+use Rattle.satisfy.specs.Greedy.{FitIfAny, GrowAsked}
+use Rattle.satisfy.proofs.Largest.{either-made}
+use Rattle.satisfy.proofs.Greedy.{promising-of}
 
 module _ {entry : ℕ → Entry} {n : ℕ} {w : Wants} {bound depth : ℕ} (ready : Ready entry n w bound depth) where
   -- nothing is pending
@@ -124,6 +128,33 @@ problem-kept asked same memory = record {
   promising = asked .promising;
   deep = asked .deep;
   all-asking = asked .all-asking;
+  room = room-kept same (asked .room);
+  memory = memory;
+}
+
+-- its needs and limits are few and below n
+pub small-of : {P : Problem} {promises : ℕ → Bool} {depth : ℕ} → Promising P promises depth → Small P
+small-of all = record { few = all .few; below = all .below }
+
+-- a solution is to be selected from a list, after the words were worked in
+pub select-kept : {P : Problem} {all : Set} {k depth level : ℕ} {before after : List ℕ} → ProblemAsked P all depth level before → length after ≡ length before
+    → Remembers (P .entry) depth level after → Lists P k level after → SelectAsked P all k depth level after
+select-kept asked same memory lists = record {
+  problem = small-of (asked .promising);
+  all-asking = asked .all-asking;
+  deep = asked .deep;
+  room = room-kept same (asked .room);
+  memory = memory;
+  lists = lists;
+}
+
+-- a set is to be grown by another, after the words were worked in
+pub grow-asked : {P : Problem} {all low free : Set} {depth level : ℕ} {before after : List ℕ} → ProblemAsked P all depth level before → Within (member low) (asking P)
+    → Within (member free) (asking P) → FitIfAny P low → length after ≡ length before → Remembers (P .entry) depth level after → GrowAsked P low free depth level after
+grow-asked {low = low} {free = free} asked below beside fit same memory = record {
+  promising = promising-of (asked .promising) (either-made (member low) (member free) below beside);
+  fit = fit;
+  deep = asked .deep;
   room = room-kept same (asked .room);
   memory = memory;
 }

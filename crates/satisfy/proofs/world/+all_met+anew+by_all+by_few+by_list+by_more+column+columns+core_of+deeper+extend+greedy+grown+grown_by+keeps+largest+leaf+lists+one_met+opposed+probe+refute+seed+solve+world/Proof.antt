@@ -1,4 +1,35 @@
--- The functions that call each other: each meets its contract. Why they end: every call has a smaller measure.
+-- The functions that call each other: each meets its contract, and all calls end.
+--
+-- Why the answers are right, from the bottom up.
+-- `deeper`: a successor keeps promises exactly where some world, one less deep, is as they want; `world` is asked for it. `keeps`: the same, or what the
+-- memory says of it. All that is above asks about promises through `keeps` alone.
+-- `grown`, `grown_by`, `column`, `seed`: only what `keeps` said yes to is in a set, so the set can be kept. `columns`, `extend`: so can each listed set.
+-- `greedy`, `anew`: yes only with a stack that is a solution. `opposed`: yes only for a pair that excludes each other (Pairs).
+-- `core_of`: what is left of a set that cannot be kept cannot be kept either. `largest`: so a set that can be kept leaves out a member of the core; the
+-- branches, one a member, list all the largest sets (Largest).
+-- `by_list`: the listed sets stand for all, so a solution is among them or there is none. `refute`: some needs and limits have none, so all have none.
+-- `by_all`, `by_few`, `by_more`, `lists`: yes and no as those say, or nothing. `probe`: the search that asks `keeps` as it goes is complete by itself.
+-- `solve`: the first of all these that says something. `one_met`: the same, or what the memory says, since a relation has a solution exactly where some
+-- world is as its needs and limits alone want (Alone).
+-- `all_met`: yes, and every relation has a solution; no, and one has none, so no world is as wanted. `leaf`: with nothing pending, solutions for all
+-- make a world. `world`: a world that is as wanted is so in one of the two cases of a split; `Remaining` (Worlds) says what is still open in the loop.
+--
+-- Why the calls end: each has a smaller measure, a number. A depth counts 1,024, and within a depth the members have an order, from below: deeper 2,
+-- keeps 3, then what asks `keeps` (4 to 9), `largest` by the promises that are free (5 to 69), by_list 401, refute 402, by_all and by_few 403, lists,
+-- solve, one_met, all_met, leaf (404 to 408), and world at 409 and its bound (at most 64). A member calls only those below it, but for `largest` and
+-- `world`, which call themselves with a free promise or a bound less, and `deeper`, which calls `world` with a depth less: 409 and 64 are less than 1,024.
+-- Loops have measures of their own: the members of a set that are left, the room of a list, the potential of a search.
+--
+-- What all share: the memory is true before and after (`Remembers`), whatever was remembered or forgotten between; the lent words stay as many
+-- (`same-length`); and those that work below a stack or a list, `opposed`, `core_of`, `keeps`, `deeper` and what grows a set, leave the words of the
+-- level, where these lie, as they were (`same`).
+--
+-- How it is laid out. First, for all members by name, the measures, and what is known at the start of a call whose measure is t (`-at`) and asked of a
+-- call with a smaller one (`-below`). Then a section a member, in the order of the source: what it calls, the invariant and the measure of its loop, facts
+-- that it uses more than once, its needs, and at last its spec, which has all needs in the order of the program. `f-requires` is what is asked before a
+-- call of f, `returns` what is promised at an exit, `loop-holds`, `loop-again` and `loop-less` are the invariant at the start and after a turn, and the
+-- measure. A need is handed c, what is known at its place; each `.before` is one step back in the program. Needs that `search` closes have no name and
+-- stand in the spec, and so do answers that are only passed on. The last declaration ties the specs together.
 use Prim.Native.Nat.{ℕ, suc, _+_, _-_, _*_, _<_, _≤_}
 use mathlib.Core.Bool.{Bool, true, false≢true, false}
 use borrow.Author.Tests.{not-true, not-false}
@@ -26,11 +57,11 @@ use Rattle.satisfy.proofs.Pairs.{within-removed, chosen-below, pair-ask
 use Rattle.semantics.proofs.Count.{count-le}
 use Rattle.sets.proofs.Members.{count-removed}
 use Rattle.cases.proofs.Recalling.{room-depth, from-fits, memory-from, memory-to, memory-below, memory-above, memory-over, next-same}
-use Rattle.satisfy.proofs.Calls.{ready-leaf, ready-bounded, promised-fit, counting-below, counting-deep, question-small, question-promising, question-positive, count-done, room-kept, length-behind, own-solution, own-no-solution, own-asking, promised-unfit, within-same, problem-kept}
+use Rattle.satisfy.proofs.Calls.{ready-leaf, ready-bounded, promised-fit, counting-below, counting-deep, question-small, question-promising, question-positive, count-done, room-kept, length-behind, own-solution, own-no-solution, own-asking, promised-unfit, within-same, problem-kept, small-of, select-kept, grow-asked}
 use Rattle.tableau.proofs.Together.{together}
 use Rattle.promises.specs.Listing.{Lists, FitList, listOf}
 use Rattle.satisfy.specs.Largest.{Unkept, ListingIs}
-use Rattle.satisfy.proofs.Largest.{either-fewer, either-right, code-above, either-made, added-within, removed-within, unfit-unkept, room-placed, lists-kept, listing-same, listing-from, listing-also, reaches-none, reaches-known, listing-covers, lists-none, listed-new, guess-memory, parts-within, parts-inside, either-left, narrowed-fewer, narrowed-solvable, Branching, branching-done, branching-small, branching-fewer, branching-promising, branching-next, room-list}
+use Rattle.satisfy.proofs.Largest.{either-fewer, either-right, code-above, added-within, removed-within, unfit-unkept, room-placed, lists-kept, listing-same, listing-from, listing-also, reaches-none, reaches-known, listing-covers, lists-none, listed-new, guess-memory, parts-within, parts-inside, either-left, narrowed-fewer, narrowed-solvable, Branching, branching-done, branching-small, branching-fewer, branching-promising, branching-next, room-list}
 use Rattle.tableau.specs.Search.{asking, Fit}
 use Rattle.sets.proofs.Tests.{both-parts}
 use mathlib.Core.Logic.{⊎-elim}
@@ -174,7 +205,7 @@ use Rattle.satisfy.proofs.world.+all_met+anew+by_all+by_few+by_list+by_
 use Rattle.satisfy.proofs.world.+all_met+anew+by_all+by_few+by_list+by_more+column+columns+core_of+deeper+extend+greedy+grown+grown_by+keeps+largest+leaf+lists+one_met+opposed+probe+refute+seed+solve+world.{statement}
 use Rattle.satisfy.proofs.world.+all_met+anew+by_all+by_few+by_list+by_more+column+columns+core_of+deeper+extend+greedy+grown+grown_by+keeps+largest+leaf+lists+one_met+opposed+probe+refute+seed+solve+world.Tie.{close}
 
--- The measure falls with the depth; within a world, with the bound on what is pending; and in a list, with the promises that are free.
+-- ---- the measures: by depth; within a world by the bound on what is pending, and in a list by the promises that are free
 abbrev μ-all-met : Measures 2 all-met-kinds.ps ℕ
 μ-all-met κs a = a .1 .1 .0 * 1024 + 407
 
@@ -400,108 +431,11 @@ world-at t = and 2 world-kinds.ps (is 2 world-kinds.ps μ-world t) world.Pre
 abbrev world-below : ℕ → In 2 world-kinds.ps
 world-below t = and 2 world-kinds.ps (falls 2 world-kinds.ps _<_ μ-world t) world.Pre
 
--- what each calls
-abbrev all-met-calls : ℕ → all-met-lts.Claims
-all-met-calls t =
-    (counted-reads.Asked, counted-reads.Learnt, highest-reads.Asked, highest-reads.Learnt, question-of-reads.Asked, question-of-reads.Learnt, asking-reads.Asked, asking-reads.Learnt, one-met-below t, one-met.Post, minus-reads.Asked, minus-reads.Learnt)
-
-abbrev anew-calls : ℕ → anew-lts.Claims
-anew-calls t =
-    (highest-reads.Asked, highest-reads.Learnt, without-reads.Asked, without-reads.Learnt, greedy-below t, greedy.Post)
-
-abbrev by-all-calls : ℕ → by-all-lts.Claims
-by-all-calls t =
-    (by-list-below t, by-list.Post, minus-reads.Asked, minus-reads.Learnt, is-empty-reads.Asked, is-empty-reads.Learnt, refute-below t, refute.Post)
-
-abbrev by-few-calls : ℕ → by-few-lts.Claims
-by-few-calls t =
-    (columns-below t, columns.Post, selected-reads.Asked, selected-reads.Learnt, by-more-below t, by-more.Post, refute-below t, refute.Post)
-
-abbrev by-list-calls : ℕ → by-list-lts.Claims
-by-list-calls t =
-    (closed-reads.Asked, closed-reads.Learnt, intersection-reads.Asked, intersection-reads.Learnt, minus-reads.Asked, minus-reads.Learnt, largest-below t, largest.Post, selected-reads.Asked, selected-reads.Learnt, blamed-behind-reads.Asked, blamed-behind-reads.Learnt)
-
-abbrev by-more-calls : ℕ → by-more-lts.Claims
-by-more-calls t =
-    (columns-below t, columns.Post, extend-below t, extend.Post, selected-reads.Asked, selected-reads.Learnt, anew-below t, anew.Post)
-
-abbrev column-calls : ℕ → column-lts.Claims
-column-calls t =
-    (closed-reads.Asked, closed-reads.Learnt, intersection-reads.Asked, intersection-reads.Learnt, empty-reads.Asked, empty-reads.Learnt, grown-below t, grown.Post, grown-by-below t, grown-by.Post, weighted-reads.Asked, weighted-reads.Learnt, pays-reads.Asked, pays-reads.Learnt, highest-reads.Asked, highest-reads.Learnt, without-reads.Asked, without-reads.Learnt, minus-reads.Asked, minus-reads.Learnt)
-
-abbrev columns-calls : ℕ → columns-lts.Claims
-columns-calls t =
-    (weighs-reads.Asked, weighs-reads.Learnt, prices-behind-reads.Asked, prices-behind-reads.Learnt, column-below t, column.Post, pays-reads.Asked, pays-reads.Learnt, weighted-reads.Asked, weighted-reads.Learnt, blamed-reads.Asked, blamed-reads.Learnt, also-reads.Asked, also-reads.Learnt)
-
-abbrev core-of-calls : ℕ → core-of-lts.Claims
-core-of-calls t =
-    (highest-reads.Asked, highest-reads.Learnt, without-reads.Asked, without-reads.Learnt, union-reads.Asked, union-reads.Learnt, keeps-below t, keeps.Post)
-
-abbrev deeper-calls : ℕ → deeper-lts.Claims
-deeper-calls t =
-    (promised-reads.Asked, promised-reads.Learnt, world-below t, world.Post)
-
-abbrev extend-calls : ℕ → extend-lts.Claims
-extend-calls t =
-    (highest-reads.Asked, highest-reads.Learnt, without-reads.Asked, without-reads.Learnt, minus-reads.Asked, minus-reads.Learnt, seed-below t, seed.Post, also-new-reads.Asked, also-new-reads.Learnt)
-
-abbrev greedy-calls : ℕ → greedy-lts.Claims
-greedy-calls t =
-    (met-reads.Asked, met-reads.Learnt, unmet-reads.Asked, unmet-reads.Learnt, intersection-reads.Asked, intersection-reads.Learnt, used-up-reads.Asked, used-up-reads.Learnt, empty-reads.Asked, empty-reads.Learnt, foremost-reads.Asked, foremost-reads.Learnt, grown-below t, grown.Post, useful-reads.Asked, useful-reads.Learnt, put-slot-reads.Asked, put-slot-reads.Learnt)
-
-abbrev grown-calls : ℕ → grown-lts.Claims
-grown-calls t =
-    (flat-reads.Asked, flat-reads.Learnt, grown-by-below t, grown-by.Post)
-
-abbrev grown-by-calls : ℕ → grown-by-lts.Claims
-grown-by-calls t =
-    (heaviest-reads.Asked, heaviest-reads.Learnt, highest-reads.Asked, highest-reads.Learnt, without-reads.Asked, without-reads.Learnt, with-reads.Asked, with-reads.Learnt, keeps-below t, keeps.Post)
-
-abbrev keeps-calls : ℕ → keeps-lts.Claims
-keeps-calls t =
-    (parts-of-reads.Asked, parts-of-reads.Learnt, recall-reads.Asked, recall-reads.Learnt, deeper-below t, deeper.Post, remember-reads.Asked, remember-reads.Learnt)
-
-abbrev largest-calls : ℕ → largest-lts.Claims
-largest-calls t =
-    (union-reads.Asked, union-reads.Learnt, has-need-reads.Asked, has-need-reads.Learnt, known-reads.Asked, known-reads.Learnt, keeps-below t, keeps.Post, also-reads.Asked, also-reads.Learnt, core-of-below t, core-of.Post, highest-reads.Asked, highest-reads.Learnt, without-reads.Asked, without-reads.Learnt, largest-below t, largest.Post, with-reads.Asked, with-reads.Learnt)
-
-abbrev leaf-calls : ℕ → leaf-lts.Claims
-leaf-calls t =
-    (all-met-below t, all-met.Post, learn-world-reads.Asked, learn-world-reads.Learnt)
-
-abbrev lists-calls : ℕ → lists-lts.Claims
-lists-calls t =
-    (is-short-reads.Asked, is-short-reads.Learnt, by-all-below t, by-all.Post, by-few-below t, by-few.Post)
-
-abbrev one-met-calls : ℕ → one-met-lts.Claims
-one-met-calls t =
-    (narrowed-reads.Asked, narrowed-reads.Learnt, recall-reads.Asked, recall-reads.Learnt, solve-below t, solve.Post, remember-reads.Asked, remember-reads.Learnt)
-
-abbrev opposed-calls : ℕ → opposed-lts.Claims
-opposed-calls t =
-    (closed-reads.Asked, closed-reads.Learnt, intersection-reads.Asked, intersection-reads.Learnt, highest-reads.Asked, highest-reads.Learnt, without-reads.Asked, without-reads.Learnt, exceeds-reads.Asked, exceeds-reads.Learnt, pair-reads.Asked, pair-reads.Learnt, union-reads.Asked, union-reads.Learnt, keeps-below t, keeps.Post, narrowed-reads.Asked, narrowed-reads.Learnt, learn-refuted-reads.Asked, learn-refuted-reads.Learnt)
-
-abbrev probe-calls : ℕ → probe-lts.Claims
-probe-calls t =
-    (start-reads.Asked, start-reads.Learnt, search-reads.Asked, search-reads.Learnt, keeps-below t, keeps.Post, take-reads.Asked, take-reads.Learnt, skip-reads.Asked, skip-reads.Learnt)
-
-abbrev refute-calls : ℕ → refute-lts.Claims
-refute-calls t =
-    (narrowed-reads.Asked, narrowed-reads.Learnt, asking-reads.Asked, asking-reads.Learnt, by-list-below t, by-list.Post, learn-refuted-reads.Asked, learn-refuted-reads.Learnt)
-
-abbrev seed-calls : ℕ → seed-lts.Claims
-seed-calls t =
-    (closed-reads.Asked, closed-reads.Learnt, intersection-reads.Asked, intersection-reads.Learnt, empty-reads.Asked, empty-reads.Learnt, grown-below t, grown.Post)
-
-abbrev solve-calls : ℕ → solve-lts.Claims
-solve-calls t =
-    (keeps-below t, keeps.Post, opposed-below t, opposed.Post, greedy-below t, greedy.Post, lists-below t, lists.Post, probe-below t, probe.Post)
+-- ---- world
 
 abbrev world-calls : ℕ → world-lts.Claims
 world-calls t =
     (force-reads.Asked, force-reads.Learnt, highest-reads.Asked, highest-reads.Learnt, leaf-below t, leaf.Post, all-met-below t, all-met.Post, branch-reads.Asked, branch-reads.Learnt, world-below t, world.Post)
-
--- ---- world
 
 abbrev world-Inv-loop : world-lts.InvT-loop
 world-Inv-loop entries bound depth level work₀ v₀ top₀ work v top =
@@ -509,18 +443,6 @@ world-Inv-loop entries bound depth level work₀ v₀ top₀ work v top =
 
 abbrev world-μ-loop : world-lts.MeasureT-loop
 world-μ-loop entries bound depth level work₀ v₀ top₀ work v top = top
-
-world-loop-holds : (t : ℕ) → world-lts.Need-loop-holds (world-calls t) (world-at t) world.Post world-Inv-loop world-μ-loop
-world-loop-holds t c = (record { ready = c .before .before .pre .1 .ready; small = omega arith; back = λ sat. sat; forth = λ sat. sat }, refl, c .before .before .pre .1 .memory)
-
-world-force-requires : (t : ℕ) → world-lts.Need-force-requires (world-calls t) (world-at t) world.Post world-Inv-loop world-μ-loop
-world-force-requires t c κs =
-    let asked = c .before .before .before .before .pre .1 in
-    let inv = c .before .loop .inv in
-    record { ready = inv .0 .ready; small = omega (arith, inv .0 .small, asked .small); room = room-kept (inv .1) (asked .room); memory = inv .2 }
-
-world-same-length : (t : ℕ) → world-lts.Need-same-length (world-calls t) (world-at t) world.Post world-Inv-loop world-μ-loop
-world-same-length t c = c .before .before .before .before .loop .inv .1
 
 world-returns : (t : ℕ) → world-lts.Need-returns (world-calls t) (world-at t) world.Post world-Inv-loop world-μ-loop
 world-returns t c =
@@ -617,7 +539,43 @@ world-loop-again t c =
     let failed = case-failed t (c .before .before .before .before) in
     (remaining-second (left-forced t (c .before .before .before .before .before .before .before .before .before .before .before .before .before)) (c .before .before .before .before .before .before .before .before .before .before .before .before .before .before .before .before .before .before .before .before .pre .1 .small) (top-pending t (c .before .before .before .before .before .before .before .before)) (failed .0) (rw (c .before .two .given .1) at (c .before .before .before .branch2 .ensures)), failed .1, failed .2)
 
+world-spec : {M : Type 1} (t : ℕ) → world-lts.Closed (world-calls t) (world-at t) world.Post M
+world-spec t =
+    world-lts.spec (world-calls t) (world-at t) world.Post world-Inv-loop world-μ-loop
+    (λ c. search needs)
+    (λ c κs. search (needs, room-kept))
+    (λ c. search needs)
+    (λ c. search needs)
+    (λ c. search needs)
+    (world-returns t)
+    (λ c κs. search needs)
+    (λ c. search needs)
+    (λ c. search needs)
+    (world-leaf-requires t)
+    (world-same-length-2 t)
+    (world-returns-2 t)
+    (world-all-met-requires t)
+    (world-same-length-3 t)
+    (world-returns-3 t)
+    (world-branch-requires t)
+    (λ c. search needs)
+    (world-world-requires t)
+    (world-same-length-4 t)
+    (world-returns-4 t)
+    (λ c. search needs)
+    (world-branch-requires-2 t)
+    (λ c. search needs)
+    (λ c. search needs)
+    (world-same-length-5 t)
+    (world-returns-5 t)
+    (world-loop-less t)
+    (world-loop-again t)
+
 -- ---- leaf
+
+abbrev leaf-calls : ℕ → leaf-lts.Claims
+leaf-calls t =
+    (all-met-below t, all-met.Post, learn-world-reads.Asked, learn-world-reads.Learnt)
 
 -- the world that is found
 leaf-found : (t : ℕ) (c : leaf-lts.Else1 (leaf-calls t) (leaf-at t) leaf.Post)
@@ -626,34 +584,33 @@ leaf-found t c =
     let asked = c .before .before .before .before .before .before .before .pre .1 in
     solved-world _ _ (ready-leaf (asked .count .ready) (asked .none)) true (rw (not-false (c .before .before .before .all-met .result) (c .if1 .left)) at (c .before .before .before .all-met .ensures .0))
 
-leaf-all-met-requires : (t : ℕ) → leaf-lts.Need-all-met-requires (leaf-calls t) (leaf-at t) leaf.Post
-leaf-all-met-requires t c κs = (omega (arith, c .before .before .before .pre .0), c .before .before .before .pre .1 .count)
-
 leaf-returns : (t : ℕ) → leaf-lts.Need-returns (leaf-calls t) (leaf-at t) leaf.Post
 leaf-returns t c = (rw (not-true (c .before .before .before .all-met .result) (c .if1 .taken)) at (c .before .before .before .all-met .ensures .0), c .before .before .before .all-met .ensures .1)
-
-leaf-learn-world-requires : (t : ℕ) → leaf-lts.Need-learn-world-requires (leaf-calls t) (leaf-at t) leaf.Post
-leaf-learn-world-requires t c κs = record { found = leaf-found t (c .before); room = room-kept (c .before .before .before .before .all-met .kept .1 .1 .1 .1 .0) (c .before .before .before .before .before .before .before .before .pre .1 .count .room); memory = c .before .before .before .before .all-met .ensures .1 }
 
 leaf-returns-2 : (t : ℕ) → leaf-lts.Need-returns-2 (leaf-calls t) (leaf-at t) leaf.Post
 leaf-returns-2 t c = (leaf-found t (c .before .before .before .before), c .before .before .learn-world .ensures)
 
+leaf-spec : {M : Type 1} (t : ℕ) → leaf-lts.Closed (leaf-calls t) (leaf-at t) leaf.Post M
+leaf-spec t =
+    leaf-lts.spec (leaf-calls t) (leaf-at t) leaf.Post
+    (λ c κs. search needs)
+    (λ c. search needs)
+    (leaf-returns t)
+    (λ c κs. search (needs, room-kept, leaf-found t (c .before)))
+    (λ c. search needs)
+    (leaf-returns-2 t)
+
 -- ---- all_met
+
+abbrev all-met-calls : ℕ → all-met-lts.Claims
+all-met-calls t =
+    (counted-reads.Asked, counted-reads.Learnt, highest-reads.Asked, highest-reads.Learnt, question-of-reads.Asked, question-of-reads.Learnt, asking-reads.Asked, asking-reads.Learnt, one-met-below t, one-met.Post, minus-reads.Asked, minus-reads.Learnt)
 
 abbrev all-met-Inv-loop : all-met-lts.InvT-loop
 all-met-Inv-loop entries w depth level work₀ rest₀ work rest = Solving (wideAt entries) w (member rest) × (length work ≡ length work₀) × Remembers (wideAt entries) depth level work
 
 abbrev all-met-μ-loop : all-met-lts.MeasureT-loop
 all-met-μ-loop entries w depth level work₀ rest₀ work rest = count (member rest) (length entries)
-
-all-met-counted-requires : (t : ℕ) → all-met-lts.Need-counted-requires (all-met-calls t) (all-met-at t) all-met.Post all-met-Inv-loop all-met-μ-loop
-all-met-counted-requires t c κs = ready-bounded (c .before .before .pre .1 .ready)
-
-all-met-loop-holds : (t : ℕ) → all-met-lts.Need-loop-holds (all-met-calls t) (all-met-at t) all-met.Post all-met-Inv-loop all-met-μ-loop
-all-met-loop-holds t c = (solving-none _ _ _ (c .counted .ensures), refl, c .before .before .before .pre .1 .memory)
-
-all-met-same-length : (t : ℕ) → all-met-lts.Need-same-length (all-met-calls t) (all-met-at t) all-met.Post all-met-Inv-loop all-met-μ-loop
-all-met-same-length t c = c .before .before .before .loop .inv .1
 
 all-met-returns : (t : ℕ) → all-met-lts.Need-returns (all-met-calls t) (all-met-at t) all-met.Post all-met-Inv-loop all-met-μ-loop
 all-met-returns t c = (solving-done _ _ (c .before .before .before .loop .inv .0) (rw (c .enum-told .given .1) at (c .before .before .highest .ensures)), c .before .before .before .loop .inv .2)
@@ -666,9 +623,6 @@ chosen t c = (rw (c .i .given .1) at (c .before .before .highest .ensures)) .her
 counts : (t : ℕ) (c : all-met-lts.After-i (all-met-calls t) (all-met-at t) all-met.Post all-met-Inv-loop all-met-μ-loop)
     → counting (c .before .before .before .before .before .before .before .args .w) (wideAt (c .before .before .before .before .before .before .before .args .entries .now) (c .i .given .0 .0)) (c .i .given .0 .0) ≡ true
 counts t c = c .before .before .before .loop .inv .0 .within _ (chosen t c)
-
-all-met-asking-requires : (t : ℕ) → all-met-lts.Need-asking-requires (all-met-calls t) (all-met-at t) all-met.Post all-met-Inv-loop all-met-μ-loop
-all-met-asking-requires t c κs = question-small (c .before .before .before .before .before .before .before .before .before .pre .1 .ready) (c .question-of .ensures)
 
 all-met-one-met-requires : (t : ℕ) → all-met-lts.Need-one-met-requires (all-met-calls t) (all-met-at t) all-met.Post all-met-Inv-loop all-met-μ-loop
 all-met-one-met-requires t c κs =
@@ -713,7 +667,30 @@ all-met-loop-again t c =
       c .before .before .before .before .one-met .ensures .1,
     )
 
+all-met-spec : {M : Type 1} (t : ℕ) → all-met-lts.Closed (all-met-calls t) (all-met-at t) all-met.Post M
+all-met-spec t =
+    all-met-lts.spec (all-met-calls t) (all-met-at t) all-met.Post all-met-Inv-loop all-met-μ-loop
+    (λ c κs. search (needs, ready-bounded))
+    (λ c. search (needs, solving-none))
+    (λ c κs. search needs)
+    (λ c. search needs)
+    (λ c. search needs)
+    (λ c. search needs)
+    (all-met-returns t)
+    (λ c κs. search needs)
+    (λ c κs. search (needs, question-small))
+    (all-met-one-met-requires t)
+    (all-met-same-length-2 t)
+    (all-met-returns-2 t)
+    (λ c κs. search needs)
+    (all-met-loop-less t)
+    (all-met-loop-again t)
+
 -- ---- one_met
+
+abbrev one-met-calls : ℕ → one-met-lts.Claims
+one-met-calls t =
+    (narrowed-reads.Asked, narrowed-reads.Learnt, recall-reads.Asked, recall-reads.Learnt, solve-below t, solve.Post, remember-reads.Asked, remember-reads.Learnt)
 
 one-met-add-from : (t : ℕ) → one-met-lts.Need-add-from (one-met-calls t) (one-met-at t) one-met.Post
 one-met-add-from t c = omega (arith, room-depth (c .before .before .before .before .before .pre .1 .problem .room), c .before .before .before .before .before .good .1 .1 .1 .1 .1 .0)
@@ -730,9 +707,6 @@ one-met-returns t c =
       asked .problem .memory,
     )
 
-one-met-solve-requires : (t : ℕ) → one-met-lts.Need-solve-requires (one-met-calls t) (one-met-at t) one-met.Post
-one-met-solve-requires t c κs = (omega (arith, c .before .before .before .before .before .before .before .before .before .before .pre .0), c .before .before .before .before .before .before .before .before .before .before .pre .1 .problem)
-
 one-met-returns-2 : (t : ℕ) → one-met-lts.Need-returns-2 (one-met-calls t) (one-met-at t) one-met.Post
 one-met-returns-2 t c =
     let start = (c .before .before .before .before .before .before .before .before .before .before .before .before .before .before .before .before .before) in
@@ -745,16 +719,33 @@ one-met-returns-2 t c =
           (c .before .before .remember .ensures .memory entry (memory-from entry (a .depth) (a .level) mid (c .before .before .before .before .before .before .solve .ensures .1)) (relation-told (a .entries .now) (start .pre .1) (c .before .before .before .before .before .before .before .before .before .before .before .before .before .before .narrowed .ensures) (c .before .before .before .before .before .before .solve .result) (c .before .before .before .before .before .before .solve .ensures .0))),
     )
 
+one-met-spec : {M : Type 1} (t : ℕ) → one-met-lts.Closed (one-met-calls t) (one-met-at t) one-met.Post M
+one-met-spec t =
+    one-met-lts.spec (one-met-calls t) (one-met-at t) one-met.Post
+    (λ c κs. search needs)
+    (one-met-add-from t)
+    (one-met-mul-from t)
+    (λ c κs. search needs)
+    (λ c. search needs)
+    (λ c. search needs)
+    (one-met-returns t)
+    (λ c. search needs)
+    (λ c κs. search needs)
+    (λ c κs. search needs)
+    (λ c. search needs)
+    (one-met-returns-2 t)
+
 -- ---- solve
+
+abbrev solve-calls : ℕ → solve-lts.Claims
+solve-calls t =
+    (keeps-below t, keeps.Post, opposed-below t, opposed.Post, greedy-below t, greedy.Post, lists-below t, lists.Post, probe-below t, probe.Post)
 
 solve-keeps-requires : (t : ℕ) → solve-lts.Need-keeps-requires (solve-calls t) (solve-at t) solve.Post
 solve-keeps-requires t c κs =
     let start = (c .before .before .before) in
     let asked = start .pre .1 in
     (omega (arith, start .pre .0), record { promising = rw (asked .all-asking) (asked .promising); deep = asked .deep; room = asked .room; memory = asked .memory })
-
-solve-same-length : (t : ℕ) → solve-lts.Need-same-length (solve-calls t) (solve-at t) solve.Post
-solve-same-length t c = c .before .before .before .keeps .kept .1 .1 .1 .1 .1 .0
 
 solve-returns : (t : ℕ) → solve-lts.Need-returns (solve-calls t) (solve-at t) solve.Post
 solve-returns t c =
@@ -764,126 +755,107 @@ solve-returns t c =
       c .before .before .before .keeps .ensures .memory,
     )
 
-solve-opposed-requires : (t : ℕ) → solve-lts.Need-opposed-requires (solve-calls t) (solve-at t) solve.Post
-solve-opposed-requires t c κs =
-    let start = (c .before .before .before .before .before .before .before .before) in
-    let asked = start .pre .1 in
-    (omega (arith, start .pre .0), record { promising = asked .promising; deep = asked .deep; all-asking = asked .all-asking; room = room-kept (c .before .before .before .before .keeps .kept .1 .1 .1 .1 .1 .0) (asked .room); memory = c .before .before .before .before .keeps .ensures .memory })
-
 solve-same-length-2 : (t : ℕ) → solve-lts.Need-same-length-2 (solve-calls t) (solve-at t) solve.Post
 solve-same-length-2 t c = c .before .before .before .opposed .kept .1 .1 .1 .1 .1 .0 ∙ c .before .before .before .before .before .before .before .before .keeps .kept .1 .1 .1 .1 .1 .0
-
-solve-returns-2 : (t : ℕ) → solve-lts.Need-returns-2 (solve-calls t) (solve-at t) solve.Post
-solve-returns-2 t c = (c .before .before .before .opposed .ensures .answers (c .if2 .taken), c .before .before .before .opposed .ensures .memory)
 
 solve-same-length-3 : (t : ℕ) → solve-lts.Need-same-length-3 (solve-calls t) (solve-at t) solve.Post
 solve-same-length-3 t c = c .before .before .before .greedy .kept .1 .1 .1 .1 .1 .1 .0 ∙ c .before .before .before .before .before .before .before .before .opposed .kept .1 .1 .1 .1 .1 .0 ∙ c .before .before .before .before .before .before .before .before .before .before .before .before .before .keeps .kept .1 .1 .1 .1 .1 .0
 
-solve-returns-3 : (t : ℕ) → solve-lts.Need-returns-3 (solve-calls t) (solve-at t) solve.Post
-solve-returns-3 t c = (c .before .before .before .greedy .ensures .answers (c .if3 .taken), c .before .before .before .greedy .ensures .memory)
-
 solve-same-length-4 : (t : ℕ) → solve-lts.Need-same-length-4 (solve-calls t) (solve-at t) solve.Post
 solve-same-length-4 t c = c .before .before .before .before .lists .kept .1 .1 .1 .1 .1 .0 ∙ c .before .before .before .before .before .before .before .before .before .greedy .kept .1 .1 .1 .1 .1 .1 .0 ∙ c .before .before .before .before .before .before .before .before .before .before .before .before .before .before .opposed .kept .1 .1 .1 .1 .1 .0 ∙ c .before .before .before .before .before .before .before .before .before .before .before .before .before .before .before .before .before .before .before .keeps .kept .1 .1 .1 .1 .1 .0
-
-solve-returns-4 : (t : ℕ) → solve-lts.Need-returns-4 (solve-calls t) (solve-at t) solve.Post
-solve-returns-4 t c = rw (c .enum-told .given .1) at (c .before .before .before .before .lists .ensures)
 
 solve-greedy-requires : (t : ℕ) → solve-lts.Need-greedy-requires (solve-calls t) (solve-at t) solve.Post
 solve-greedy-requires t c κs =
     let start = (c .before .before .before .before .before .before .before .before .before .before .before .before .before) in
     let asked = start .pre .1 in
-    (omega (arith, start .pre .0), record { promising = asked .promising; deep = asked .deep; all-asking = asked .all-asking; room = room-kept (c .before .before .before .before .opposed .kept .1 .1 .1 .1 .1 .0 ∙ c .before .before .before .before .before .before .before .before .before .keeps .kept .1 .1 .1 .1 .1 .0) (asked .room); memory = c .before .before .before .before .opposed .ensures .memory })
+    (omega (arith, start .pre .0), problem-kept asked (c .before .before .before .before .opposed .kept .1 .1 .1 .1 .1 .0 ∙ c .before .before .before .before .before .before .before .before .before .keeps .kept .1 .1 .1 .1 .1 .0) (c .before .before .before .before .opposed .ensures .memory))
 
 solve-same-length-5 : (t : ℕ) → solve-lts.Need-same-length-5 (solve-calls t) (solve-at t) solve.Post
 solve-same-length-5 t c = c .before .before .before .before .lists .kept .1 .1 .1 .1 .1 .0 ∙ c .before .before .before .before .before .before .before .before .before .greedy .kept .1 .1 .1 .1 .1 .1 .0 ∙ c .before .before .before .before .before .before .before .before .before .before .before .before .before .before .opposed .kept .1 .1 .1 .1 .1 .0 ∙ c .before .before .before .before .before .before .before .before .before .before .before .before .before .before .before .before .before .before .before .keeps .kept .1 .1 .1 .1 .1 .0
-
-solve-returns-5 : (t : ℕ) → solve-lts.Need-returns-5 (solve-calls t) (solve-at t) solve.Post
-solve-returns-5 t c = rw (c .enum-told2 .given .1) at (c .before .before .before .before .lists .ensures)
 
 solve-lists-requires : (t : ℕ) → solve-lts.Need-lists-requires (solve-calls t) (solve-at t) solve.Post
 solve-lists-requires t c κs =
     let start = (c .before .before .before .before .before .before .before .before .before .before .before .before .before .before .before .before .before .before) in
     let asked = start .pre .1 in
-    (omega (arith, start .pre .0), record { promising = asked .promising; deep = asked .deep; all-asking = asked .all-asking; room = room-kept (c .before .before .before .before .greedy .kept .1 .1 .1 .1 .1 .1 .0 ∙ c .before .before .before .before .before .before .before .before .before .opposed .kept .1 .1 .1 .1 .1 .0 ∙ c .before .before .before .before .before .before .before .before .before .before .before .before .before .before .keeps .kept .1 .1 .1 .1 .1 .0) (asked .room); memory = c .before .before .before .before .greedy .ensures .memory })
+    (omega (arith, start .pre .0), problem-kept asked (c .before .before .before .before .greedy .kept .1 .1 .1 .1 .1 .1 .0 ∙ c .before .before .before .before .before .before .before .before .before .opposed .kept .1 .1 .1 .1 .1 .0 ∙ c .before .before .before .before .before .before .before .before .before .before .before .before .before .before .keeps .kept .1 .1 .1 .1 .1 .0) (c .before .before .before .before .greedy .ensures .memory))
 
 solve-probe-requires : (t : ℕ) → solve-lts.Need-probe-requires (solve-calls t) (solve-at t) solve.Post
 solve-probe-requires t c κs =
     let start = (c .before .before .before .before .before .before .before .before .before .before .before .before .before .before .before .before .before .before .before .before .before .before .before .before) in
     let asked = start .pre .1 in
-    (omega (arith, start .pre .0), record { promising = asked .promising; deep = asked .deep; all-asking = asked .all-asking; room = room-kept (c .before .before .before .before .before .lists .kept .1 .1 .1 .1 .1 .0 ∙ c .before .before .before .before .before .before .before .before .before .before .greedy .kept .1 .1 .1 .1 .1 .1 .0 ∙ c .before .before .before .before .before .before .before .before .before .before .before .before .before .before .before .opposed .kept .1 .1 .1 .1 .1 .0 ∙ c .before .before .before .before .before .before .before .before .before .before .before .before .before .before .before .before .before .before .before .before .keeps .kept .1 .1 .1 .1 .1 .0) (asked .room); memory = c .before .before .before .before .before .lists .ensures .1 })
+    (omega (arith, start .pre .0), problem-kept asked (c .before .before .before .before .before .lists .kept .1 .1 .1 .1 .1 .0 ∙ c .before .before .before .before .before .before .before .before .before .before .greedy .kept .1 .1 .1 .1 .1 .1 .0 ∙ c .before .before .before .before .before .before .before .before .before .before .before .before .before .before .before .opposed .kept .1 .1 .1 .1 .1 .0 ∙ c .before .before .before .before .before .before .before .before .before .before .before .before .before .before .before .before .before .before .before .before .keeps .kept .1 .1 .1 .1 .1 .0) (c .before .before .before .before .before .lists .ensures .1))
 
 solve-same-length-6 : (t : ℕ) → solve-lts.Need-same-length-6 (solve-calls t) (solve-at t) solve.Post
 solve-same-length-6 t c = c .before .before .probe .kept .1 .1 .1 .1 .1 .0 ∙ c .before .before .before .before .before .before .before .before .lists .kept .1 .1 .1 .1 .1 .0 ∙ c .before .before .before .before .before .before .before .before .before .before .before .before .before .greedy .kept .1 .1 .1 .1 .1 .1 .0 ∙ c .before .before .before .before .before .before .before .before .before .before .before .before .before .before .before .before .before .before .opposed .kept .1 .1 .1 .1 .1 .0 ∙ c .before .before .before .before .before .before .before .before .before .before .before .before .before .before .before .before .before .before .before .before .before .before .before .keeps .kept .1 .1 .1 .1 .1 .0
 
-solve-returns-6 : (t : ℕ) → solve-lts.Need-returns-6 (solve-calls t) (solve-at t) solve.Post
-solve-returns-6 t c = c .before .before .probe .ensures
+solve-spec : {M : Type 1} (t : ℕ) → solve-lts.Closed (solve-calls t) (solve-at t) solve.Post M
+solve-spec t =
+    solve-lts.spec (solve-calls t) (solve-at t) solve.Post
+    (solve-keeps-requires t)
+    (λ c. search needs)
+    (solve-returns t)
+    (λ c κs. search (needs, problem-kept))
+    (solve-same-length-2 t)
+    (λ c. (c .before .before .before .opposed .ensures .answers (c .if2 .taken), c .before .before .before .opposed .ensures .memory))
+    (solve-greedy-requires t)
+    (solve-same-length-3 t)
+    (λ c. (c .before .before .before .greedy .ensures .answers (c .if3 .taken), c .before .before .before .greedy .ensures .memory))
+    (solve-lists-requires t)
+    (λ c. search needs)
+    (λ c. search needs)
+    (λ c. search needs)
+    (solve-probe-requires t)
+    (solve-same-length-4 t)
+    (λ c. rw (c .enum-told .given .1) at (c .before .before .before .before .lists .ensures))
+    (solve-same-length-5 t)
+    (λ c. rw (c .enum-told2 .given .1) at (c .before .before .before .before .lists .ensures))
+    (solve-same-length-6 t)
+    (λ c. search needs)
 
 -- ---- lists
 
-lists-by-all-requires : (t : ℕ) → lists-lts.Need-by-all-requires (lists-calls t) (lists-at t) lists.Post
-lists-by-all-requires t c κs = (omega (arith, c .before .before .before .before .before .pre .0), c .before .before .before .before .before .pre .1)
-
-lists-by-few-requires : (t : ℕ) → lists-lts.Need-by-few-requires (lists-calls t) (lists-at t) lists.Post
-lists-by-few-requires t c κs = (omega (arith, c .before .before .before .before .before .before .before .before .before .before .before .pre .0), problem-kept (c .before .before .before .before .before .before .before .before .before .before .before .pre .1) (c .before .before .before .before .before .by-all .kept .1 .1 .1 .1 .1 .0) (c .before .before .before .before .before .by-all .ensures .1))
-
-lists-by-few-requires-2 : (t : ℕ) → lists-lts.Need-by-few-requires-2 (lists-calls t) (lists-at t) lists.Post
-lists-by-few-requires-2 t c κs = (omega (arith, c .before .before .before .before .before .pre .0), c .before .before .before .before .before .pre .1)
-
-lists-by-all-requires-2 : (t : ℕ) → lists-lts.Need-by-all-requires-2 (lists-calls t) (lists-at t) lists.Post
-lists-by-all-requires-2 t c κs = (omega (arith, c .before .before .before .before .before .before .before .before .before .before .before .pre .0), problem-kept (c .before .before .before .before .before .before .before .before .before .before .before .pre .1) (c .before .before .before .before .before .by-few2 .kept .1 .1 .1 .1 .1 .0) (c .before .before .before .before .before .by-few2 .ensures .1))
-
-lists-same-length : (t : ℕ) → lists-lts.Need-same-length (lists-calls t) (lists-at t) lists.Post
-lists-same-length t c = c .before .before .before .before .by-all .kept .1 .1 .1 .1 .1 .0
-
-lists-returns : (t : ℕ) → lists-lts.Need-returns (lists-calls t) (lists-at t) lists.Post
-lists-returns t c = rw (c .enum-told .given .1) at (c .before .before .before .before .by-all .ensures)
-
-lists-same-length-2 : (t : ℕ) → lists-lts.Need-same-length-2 (lists-calls t) (lists-at t) lists.Post
-lists-same-length-2 t c = c .before .before .before .before .before .by-all .kept .1 .1 .1 .1 .1 .0
-
-lists-returns-2 : (t : ℕ) → lists-lts.Need-returns-2 (lists-calls t) (lists-at t) lists.Post
-lists-returns-2 t c = rw (c .before .s .given .1) at (c .before .before .before .before .before .by-all .ensures)
+abbrev lists-calls : ℕ → lists-lts.Claims
+lists-calls t =
+    (is-short-reads.Asked, is-short-reads.Learnt, by-all-below t, by-all.Post, by-few-below t, by-few.Post)
 
 lists-same-length-3 : (t : ℕ) → lists-lts.Need-same-length-3 (lists-calls t) (lists-at t) lists.Post
 lists-same-length-3 t c = c .before .before .by-few .kept .1 .1 .1 .1 .1 .0 ∙ c .before .before .before .before .before .before .before .before .by-all .kept .1 .1 .1 .1 .1 .0
 
-lists-returns-3 : (t : ℕ) → lists-lts.Need-returns-3 (lists-calls t) (lists-at t) lists.Post
-lists-returns-3 t c = c .before .before .by-few .ensures
-
-lists-same-length-4 : (t : ℕ) → lists-lts.Need-same-length-4 (lists-calls t) (lists-at t) lists.Post
-lists-same-length-4 t c = c .before .before .before .before .by-few2 .kept .1 .1 .1 .1 .1 .0
-
-lists-returns-4 : (t : ℕ) → lists-lts.Need-returns-4 (lists-calls t) (lists-at t) lists.Post
-lists-returns-4 t c = rw (c .enum-told3 .given .1) at (c .before .before .before .before .by-few2 .ensures)
-
-lists-same-length-5 : (t : ℕ) → lists-lts.Need-same-length-5 (lists-calls t) (lists-at t) lists.Post
-lists-same-length-5 t c = c .before .before .before .before .before .by-few2 .kept .1 .1 .1 .1 .1 .0
-
-lists-returns-5 : (t : ℕ) → lists-lts.Need-returns-5 (lists-calls t) (lists-at t) lists.Post
-lists-returns-5 t c = rw (c .before .s2 .given .1) at (c .before .before .before .before .before .by-few2 .ensures)
-
 lists-same-length-6 : (t : ℕ) → lists-lts.Need-same-length-6 (lists-calls t) (lists-at t) lists.Post
 lists-same-length-6 t c = c .before .before .by-all2 .kept .1 .1 .1 .1 .1 .0 ∙ c .before .before .before .before .before .before .before .before .by-few2 .kept .1 .1 .1 .1 .1 .0
 
-lists-returns-6 : (t : ℕ) → lists-lts.Need-returns-6 (lists-calls t) (lists-at t) lists.Post
-lists-returns-6 t c = c .before .before .by-all2 .ensures
+lists-spec : {M : Type 1} (t : ℕ) → lists-lts.Closed (lists-calls t) (lists-at t) lists.Post M
+lists-spec t =
+    lists-lts.spec (lists-calls t) (lists-at t) lists.Post
+    (λ c κs. search needs)
+    (λ c κs. search needs)
+    (λ c. search needs)
+    (λ c. search needs)
+    (λ c. search needs)
+    (λ c κs. search (needs, problem-kept))
+    (λ c κs. search needs)
+    (λ c. search needs)
+    (λ c. search needs)
+    (λ c. search needs)
+    (λ c κs. search (needs, problem-kept))
+    (λ c. search needs)
+    (λ c. rw (c .enum-told .given .1) at (c .before .before .before .before .by-all .ensures))
+    (λ c. search needs)
+    (λ c. rw (c .before .s .given .1) at (c .before .before .before .before .before .by-all .ensures))
+    (lists-same-length-3 t)
+    (λ c. search needs)
+    (λ c. search needs)
+    (λ c. rw (c .enum-told3 .given .1) at (c .before .before .before .before .by-few2 .ensures))
+    (λ c. search needs)
+    (λ c. rw (c .before .s2 .given .1) at (c .before .before .before .before .before .by-few2 .ensures))
+    (lists-same-length-6 t)
+    (λ c. search needs)
 
 -- ---- by_all
 
-by-all-by-list-requires : (t : ℕ) → by-all-lts.Need-by-list-requires (by-all-calls t) (by-all-at t) by-all.Post
-by-all-by-list-requires t c κs = (omega (arith, c .before .before .before .pre .0), c .before .before .before .pre .1)
-
-by-all-refute-requires : (t : ℕ) → by-all-lts.Need-refute-requires (by-all-calls t) (by-all-at t) by-all.Post
-by-all-refute-requires t c κs =
-    let asked = c .before .before .before .before .before .before .before .before .before .before .before .before .before .pre .1 in (
-      omega (arith, c .before .before .before .before .before .before .before .before .before .before .before .before .before .pre .0),
-      record {
-        promising = asked .promising;
-        deep = asked .deep;
-        room = room-kept (c .before .before .before .before .before .before .before .before .before .by-list .kept .1 .1 .1 .1 .1 .0) (asked .room);
-        memory = c .before .before .before .before .before .before .before .before .before .by-list .ensures .1;
-      },
-    )
+abbrev by-all-calls : ℕ → by-all-lts.Claims
+by-all-calls t =
+    (by-list-below t, by-list.Post, minus-reads.Asked, minus-reads.Learnt, is-empty-reads.Asked, is-empty-reads.Learnt, refute-below t, refute.Post)
 
 by-all-same-length : (t : ℕ) → by-all-lts.Need-same-length (by-all-calls t) (by-all-at t) by-all.Post
 by-all-same-length t c = c .before .before .refute .kept .1 .1 .1 .1 .1 .0 ∙ c .before .before .before .before .before .before .before .before .before .before .before .before .by-list .kept .1 .1 .1 .1 .1 .0
@@ -891,25 +863,33 @@ by-all-same-length t c = c .before .before .refute .kept .1 .1 .1 .1 .1 .0 ∙ c
 by-all-returns : (t : ℕ) → by-all-lts.Need-returns (by-all-calls t) (by-all-at t) by-all.Post
 by-all-returns t c = (rw (c .before .before .before .before .before .before .before .before .s .given .1) at (c .before .before .before .before .before .before .before .before .before .before .before .before .by-list .ensures .0), c .before .before .refute .ensures .1)
 
-by-all-same-length-2 : (t : ℕ) → by-all-lts.Need-same-length-2 (by-all-calls t) (by-all-at t) by-all.Post
-by-all-same-length-2 t c = c .before .before .before .before .before .before .before .before .by-list .kept .1 .1 .1 .1 .1 .0
-
 by-all-returns-2 : (t : ℕ) → by-all-lts.Need-returns-2 (by-all-calls t) (by-all-at t) by-all.Post
 by-all-returns-2 t c = rw (c .before .before .before .before .s .given .1) at (c .before .before .before .before .before .before .before .before .by-list .ensures)
 
-by-all-same-length-3 : (t : ℕ) → by-all-lts.Need-same-length-3 (by-all-calls t) (by-all-at t) by-all.Post
-by-all-same-length-3 t c = c .before .before .before .before .by-list .kept .1 .1 .1 .1 .1 .0
-
-by-all-returns-3 : (t : ℕ) → by-all-lts.Need-returns-3 (by-all-calls t) (by-all-at t) by-all.Post
-by-all-returns-3 t c = rw (c .enum-told .given .1) at (c .before .before .before .before .by-list .ensures)
-
-by-all-same-length-4 : (t : ℕ) → by-all-lts.Need-same-length-4 (by-all-calls t) (by-all-at t) by-all.Post
-by-all-same-length-4 t c = c .before .before .before .before .by-list .kept .1 .1 .1 .1 .1 .0
-
-by-all-returns-4 : (t : ℕ) → by-all-lts.Need-returns-4 (by-all-calls t) (by-all-at t) by-all.Post
-by-all-returns-4 t c = rw (c .enum-told2 .given .1) at (c .before .before .before .before .by-list .ensures)
+by-all-spec : {M : Type 1} (t : ℕ) → by-all-lts.Closed (by-all-calls t) (by-all-at t) by-all.Post M
+by-all-spec t =
+    by-all-lts.spec (by-all-calls t) (by-all-at t) by-all.Post
+    (λ c κs. search needs)
+    (λ c. search needs)
+    (λ c κs. search needs)
+    (λ c κs. search needs)
+    (λ c κs. search (needs, room-kept))
+    (λ c. search needs)
+    (λ c. search needs)
+    (by-all-same-length t)
+    (by-all-returns t)
+    (λ c. search needs)
+    (by-all-returns-2 t)
+    (λ c. search needs)
+    (λ c. rw (c .enum-told .given .1) at (c .before .before .before .before .by-list .ensures))
+    (λ c. search needs)
+    (λ c. rw (c .enum-told2 .given .1) at (c .before .before .before .before .by-list .ensures))
 
 -- ---- by_list
+
+abbrev by-list-calls : ℕ → by-list-lts.Claims
+by-list-calls t =
+    (closed-reads.Asked, closed-reads.Learnt, intersection-reads.Asked, intersection-reads.Learnt, minus-reads.Asked, minus-reads.Learnt, largest-below t, largest.Post, selected-reads.Asked, selected-reads.Learnt, blamed-behind-reads.Asked, blamed-behind-reads.Learnt)
 
 -- the limits that allow none, and the rest: all of the needs and limits, in two parts
 base-closed : (t : ℕ) (c : by-list-lts.After-minus (by-list-calls t) (by-list-at t) by-list.Post) → (i : ℕ) → member (c .before .intersection .result) i ≡ true → Closed (problemOf (c .before .before .before .before .before .args .entries .now) (c .before .before .before .before .before .args .q)) i
@@ -923,9 +903,6 @@ parts-all t c = within-same (c .before .before .before .before .before .pre .1 .
 
 all-parts : (t : ℕ) (c : by-list-lts.After-minus (by-list-calls t) (by-list-at t) by-list.Post) → Within (asking (problemOf (c .before .before .before .before .before .args .entries .now) (c .before .before .before .before .before .args .q))) (either (member (c .before .intersection .result)) (member (c .minus .result)))
 all-parts t c i h = rw (c .minus .ensures) (parts-within (member (c .before .before .before .before .before .args .all)) (member (c .before .intersection .result)) i (ap (λ (p : ℕ → Bool). p i) (c .before .before .before .before .before .pre .1 .all-asking) ∙ h))
-
-by-list-closed-requires : (t : ℕ) → by-list-lts.Need-closed-requires (by-list-calls t) (by-list-at t) by-list.Post
-by-list-closed-requires t c κs = record { few = c .before .before .pre .1 .promising .few; below = c .before .before .pre .1 .promising .below }
 
 by-list-largest-requires : (t : ℕ) → by-list-lts.Need-largest-requires (by-list-calls t) (by-list-at t) by-list.Post
 by-list-largest-requires t c κs =
@@ -947,26 +924,13 @@ by-list-selected-requires t c κs =
     let a = c .before .before .before .before .before .before .before .before .before .before .before .before .before .args in
     let asked = c .before .before .before .before .before .before .before .before .before .before .before .before .before .pre .1 in
     let listed = rw (c .before .before .k .given .1) at (c .before .before .before .before .before .before .largest .ensures) in
-    record {
-      problem = record { few = asked .promising .few; below = asked .promising .below };
-      all-asking = asked .all-asking;
-      deep = asked .deep;
-      room = room-kept (c .before .before .before .before .before .before .largest .kept .1 .1 .1 .1 .1 .1 .1 .0) (asked .room);
-      memory = listed .memory;
-      lists = listed .lists;
-    }
+    select-kept asked (c .before .before .before .before .before .before .largest .kept .1 .1 .1 .1 .1 .1 .1 .0) (listed .memory) (listed .lists)
 
 by-list-same-length : (t : ℕ) → by-list-lts.Need-same-length (by-list-calls t) (by-list-at t) by-list.Post
 by-list-same-length t c = c .before .before .before .selected .kept .1 .1 .1 .1 .1 .1 .0 ∙ c .before .before .before .before .before .before .before .before .before .before .largest .kept .1 .1 .1 .1 .1 .1 .1 .0
 
-by-list-returns : (t : ℕ) → by-list-lts.Need-returns (by-list-calls t) (by-list-at t) by-list.Post
-by-list-returns t c = (rw (c .if1 .taken) at (c .before .before .before .selected .ensures .0), c .before .before .before .selected .ensures .1)
-
 by-list-same-length-2 : (t : ℕ) → by-list-lts.Need-same-length-2 (by-list-calls t) (by-list-at t) by-list.Post
 by-list-same-length-2 t c = c .before .before .before .selected2 .kept .1 .1 .1 .1 .1 .1 .0 ∙ c .before .before .before .before .before .before .before .before .before .before .largest .kept .1 .1 .1 .1 .1 .1 .1 .0
-
-by-list-returns-2 : (t : ℕ) → by-list-lts.Need-returns-2 (by-list-calls t) (by-list-at t) by-list.Post
-by-list-returns-2 t c = (rw (c .if2 .taken) at (c .before .before .before .selected2 .ensures .0), c .before .before .before .selected2 .ensures .1)
 
 by-list-same-length-3 : (t : ℕ) → by-list-lts.Need-same-length-3 (by-list-calls t) (by-list-at t) by-list.Post
 by-list-same-length-3 t c = c .before .before .before .before .before .selected .kept .1 .1 .1 .1 .1 .1 .0 ∙ c .before .before .before .before .before .before .before .before .before .before .before .before .largest .kept .1 .1 .1 .1 .1 .1 .1 .0
@@ -982,76 +946,63 @@ by-list-selected-requires-2 : (t : ℕ) → by-list-lts.Need-selected-requires-2
 by-list-selected-requires-2 t c κs =
     let asked = c .before .before .before .before .before .before .before .before .before .before .before .before .before .pre .1 in
     let listed = rw (c .before .before .k2 .given .1) at (c .before .before .before .before .before .before .largest .ensures) in
-    record {
-      problem = record { few = asked .promising .few; below = asked .promising .below };
-      all-asking = asked .all-asking;
-      deep = asked .deep;
-      room = room-kept (c .before .before .before .before .before .before .largest .kept .1 .1 .1 .1 .1 .1 .1 .0) (asked .room);
-      memory = listed .memory;
-      lists = listed .lists;
-    }
+    select-kept asked (c .before .before .before .before .before .before .largest .kept .1 .1 .1 .1 .1 .1 .1 .0) (listed .memory) (listed .lists)
 
 by-list-same-length-4 : (t : ℕ) → by-list-lts.Need-same-length-4 (by-list-calls t) (by-list-at t) by-list.Post
 by-list-same-length-4 t c = c .before .before .before .selected2 .kept .1 .1 .1 .1 .1 .1 .0 ∙ c .before .before .before .before .before .before .before .before .before .before .largest .kept .1 .1 .1 .1 .1 .1 .1 .0
-
-by-list-returns-4 : (t : ℕ) → by-list-lts.Need-returns-4 (by-list-calls t) (by-list-at t) by-list.Post
-by-list-returns-4 t c = (tt, c .before .before .before .selected2 .ensures .1)
 
 by-list-blamed-behind-requires : (t : ℕ) → by-list-lts.Need-blamed-behind-requires (by-list-calls t) (by-list-at t) by-list.Post
 by-list-blamed-behind-requires t c κs =
     let a = c .before .before .before .before .before .before .before .before .before .before .before .before .before .before .before .before .before .before .args in
     let asked = c .before .before .before .before .before .before .before .before .before .before .before .before .before .before .before .before .before .before .pre .1 in (
-      record { few = asked .promising .few; below = asked .promising .below },
+      small-of (asked .promising),
       room-placed (problemOf (a .entries .now) (a .q)) (asked .promising .few) (room-kept (c .before .before .before .before .selected .kept .1 .1 .1 .1 .1 .1 .0 ∙ c .before .before .before .before .before .before .before .before .before .before .before .largest .kept .1 .1 .1 .1 .1 .1 .1 .0) (asked .room)) ((rw (c .before .before .before .before .before .before .before .k .given .1) at (c .before .before .before .before .before .before .before .before .before .before .before .largest .ensures)) .lists .some),
     )
 
+by-list-spec : {M : Type 1} (t : ℕ) → by-list-lts.Closed (by-list-calls t) (by-list-at t) by-list.Post M
+by-list-spec t =
+    by-list-lts.spec (by-list-calls t) (by-list-at t) by-list.Post
+    (λ c κs. search needs)
+    (λ c κs. search needs)
+    (λ c κs. search needs)
+    (by-list-largest-requires t)
+    (λ c. search needs)
+    (by-list-selected-requires t)
+    (by-list-same-length t)
+    (λ c. (rw (c .if1 .taken) at (c .before .before .before .selected .ensures .0), c .before .before .before .selected .ensures .1))
+    (by-list-blamed-behind-requires t)
+    (λ c. search needs)
+    (by-list-selected-requires-2 t)
+    (by-list-same-length-2 t)
+    (λ c. (rw (c .if2 .taken) at (c .before .before .before .selected2 .ensures .0), c .before .before .before .selected2 .ensures .1))
+    (by-list-same-length-3 t)
+    (by-list-returns-3 t)
+    (by-list-same-length-4 t)
+    (λ c. search needs)
+
 -- ---- by_few
 
-by-few-columns-requires : (t : ℕ) → by-few-lts.Need-columns-requires (by-few-calls t) (by-few-at t) by-few.Post
-by-few-columns-requires t c κs = (omega (arith, c .before .before .before .pre .0), c .before .before .before .pre .1)
+abbrev by-few-calls : ℕ → by-few-lts.Claims
+by-few-calls t =
+    (columns-below t, columns.Post, selected-reads.Asked, selected-reads.Learnt, by-more-below t, by-more.Post, refute-below t, refute.Post)
 
 by-few-selected-requires : (t : ℕ) → by-few-lts.Need-selected-requires (by-few-calls t) (by-few-at t) by-few.Post
 by-few-selected-requires t c κs =
     let asked = c .before .before .before .before .before .before .before .before .before .before .pre .1 in
     let guess = rw (c .before .before .k .given .1) at (c .before .before .before .before .before .before .columns .ensures) in
-    record {
-      problem = record { few = asked .promising .few; below = asked .promising .below };
-      all-asking = asked .all-asking;
-      deep = asked .deep;
-      room = room-kept (c .before .before .before .before .before .before .columns .kept .1 .1 .1 .1 .1 .0) (asked .room);
-      memory = guess .memory;
-      lists = guess .lists;
-    }
+    select-kept asked (c .before .before .before .before .before .before .columns .kept .1 .1 .1 .1 .1 .0) (guess .memory) (guess .lists)
 
 by-few-same-length : (t : ℕ) → by-few-lts.Need-same-length (by-few-calls t) (by-few-at t) by-few.Post
 by-few-same-length t c = c .before .before .before .selected .kept .1 .1 .1 .1 .1 .1 .0 ∙ c .before .before .before .before .before .before .before .before .before .before .columns .kept .1 .1 .1 .1 .1 .0
 
-by-few-returns : (t : ℕ) → by-few-lts.Need-returns (by-few-calls t) (by-few-at t) by-few.Post
-by-few-returns t c = (rw (c .if1 .taken) at (c .before .before .before .selected .ensures .0), c .before .before .before .selected .ensures .1)
-
 by-few-same-length-2 : (t : ℕ) → by-few-lts.Need-same-length-2 (by-few-calls t) (by-few-at t) by-few.Post
 by-few-same-length-2 t c = c .before .before .before .refute .kept .1 .1 .1 .1 .1 .0 ∙ c .before .before .before .before .before .before .before .before .before .before .columns .kept .1 .1 .1 .1 .1 .0
-
-by-few-returns-2 : (t : ℕ) → by-few-lts.Need-returns-2 (by-few-calls t) (by-few-at t) by-few.Post
-by-few-returns-2 t c = (c .before .before .before .refute .ensures .0 (c .if2 .taken), c .before .before .before .refute .ensures .1)
 
 by-few-same-length-3 : (t : ℕ) → by-few-lts.Need-same-length-3 (by-few-calls t) (by-few-at t) by-few.Post
 by-few-same-length-3 t c = c .before .before .by-more .kept .1 .1 .1 .1 .1 .0 ∙ c .before .before .before .before .before .before .before .selected .kept .1 .1 .1 .1 .1 .1 .0 ∙ c .before .before .before .before .before .before .before .before .before .before .before .before .before .before .columns .kept .1 .1 .1 .1 .1 .0
 
-by-few-returns-3 : (t : ℕ) → by-few-lts.Need-returns-3 (by-few-calls t) (by-few-at t) by-few.Post
-by-few-returns-3 t c = c .before .before .by-more .ensures
-
 by-few-same-length-4 : (t : ℕ) → by-few-lts.Need-same-length-4 (by-few-calls t) (by-few-at t) by-few.Post
 by-few-same-length-4 t c = c .before .before .before .refute .kept .1 .1 .1 .1 .1 .0 ∙ c .before .before .before .before .before .before .before .before .before .before .columns .kept .1 .1 .1 .1 .1 .0
-
-by-few-returns-4 : (t : ℕ) → by-few-lts.Need-returns-4 (by-few-calls t) (by-few-at t) by-few.Post
-by-few-returns-4 t c = (tt, c .before .before .before .refute .ensures .1)
-
-by-few-same-length-5 : (t : ℕ) → by-few-lts.Need-same-length-5 (by-few-calls t) (by-few-at t) by-few.Post
-by-few-same-length-5 t c = c .before .before .before .before .columns .kept .1 .1 .1 .1 .1 .0
-
-by-few-returns-5 : (t : ℕ) → by-few-lts.Need-returns-5 (by-few-calls t) (by-few-at t) by-few.Post
-by-few-returns-5 t c = (tt, rw (c .enum-told .given .1) at (c .before .before .before .before .columns .ensures))
 
 by-few-refute-requires : (t : ℕ) → by-few-lts.Need-refute-requires (by-few-calls t) (by-few-at t) by-few.Post
 by-few-refute-requires t c κs =
@@ -1069,25 +1020,35 @@ by-few-by-more-requires : (t : ℕ) → by-few-lts.Need-by-more-requires (by-few
 by-few-by-more-requires t c κs =
     let asked = c .before .before .before .before .before .before .before .before .before .before .before .before .before .before .before .pre .1 in (
       omega (arith, c .before .before .before .before .before .before .before .before .before .before .before .before .before .before .before .pre .0),
-      record {
-        promising = asked .promising;
-        deep = asked .deep;
-        all-asking = asked .all-asking;
-        room = room-kept (c .before .before .before .before .selected .kept .1 .1 .1 .1 .1 .1 .0 ∙ c .before .before .before .before .before .before .before .before .before .before .before .columns .kept .1 .1 .1 .1 .1 .0) (asked .room);
-        memory = c .before .before .before .before .selected .ensures .1;
-      },
+      problem-kept asked (c .before .before .before .before .selected .kept .1 .1 .1 .1 .1 .1 .0 ∙ c .before .before .before .before .before .before .before .before .before .before .before .columns .kept .1 .1 .1 .1 .1 .0) (c .before .before .before .before .selected .ensures .1),
     )
+
+by-few-spec : {M : Type 1} (t : ℕ) → by-few-lts.Closed (by-few-calls t) (by-few-at t) by-few.Post M
+by-few-spec t =
+    by-few-lts.spec (by-few-calls t) (by-few-at t) by-few.Post
+    (λ c κs. search needs)
+    (λ c. search needs)
+    (by-few-selected-requires t)
+    (by-few-same-length t)
+    (λ c. (rw (c .if1 .taken) at (c .before .before .before .selected .ensures .0), c .before .before .before .selected .ensures .1))
+    (by-few-by-more-requires t)
+    (λ c. search needs)
+    (by-few-refute-requires t)
+    (by-few-same-length-2 t)
+    (λ c. (c .before .before .before .refute .ensures .0 (c .if2 .taken), c .before .before .before .refute .ensures .1))
+    (λ c. search needs)
+    (by-few-same-length-3 t)
+    (λ c. search needs)
+    (by-few-same-length-4 t)
+    (λ c. search needs)
+    (λ c. search needs)
+    (λ c. (tt, rw (c .enum-told .given .1) at (c .before .before .before .before .columns .ensures)))
 
 -- ---- by_more
 
-by-more-columns-requires : (t : ℕ) → by-more-lts.Need-columns-requires (by-more-calls t) (by-more-at t) by-more.Post
-by-more-columns-requires t c κs = (omega (arith, c .before .before .before .pre .0), c .before .before .before .pre .1)
-
-by-more-same-length : (t : ℕ) → by-more-lts.Need-same-length (by-more-calls t) (by-more-at t) by-more.Post
-by-more-same-length t c = c .before .before .before .columns .kept .1 .1 .1 .1 .1 .0
-
-by-more-returns : (t : ℕ) → by-more-lts.Need-returns (by-more-calls t) (by-more-at t) by-more.Post
-by-more-returns t c = (tt, guess-memory _ _ _ _ (c .before .before .before .columns .result) (c .before .before .before .columns .ensures))
+abbrev by-more-calls : ℕ → by-more-lts.Claims
+by-more-calls t =
+    (columns-below t, columns.Post, extend-below t, extend.Post, selected-reads.Asked, selected-reads.Learnt, anew-below t, anew.Post)
 
 by-more-extend-requires : (t : ℕ) → by-more-lts.Need-extend-requires (by-more-calls t) (by-more-at t) by-more.Post
 by-more-extend-requires t c κs =
@@ -1095,13 +1056,7 @@ by-more-extend-requires t c κs =
     let guess = rw (c .before .before .k .given .1) at (c .before .before .before .before .before .before .columns .ensures) in (
       omega (arith, c .before .before .before .before .before .before .before .before .before .before .pre .0),
       record {
-        problem = record {
-          promising = asked .promising;
-          deep = asked .deep;
-          all-asking = asked .all-asking;
-          room = room-kept (c .before .before .before .before .before .before .columns .kept .1 .1 .1 .1 .1 .0) (asked .room);
-          memory = guess .memory;
-        };
+        problem = problem-kept asked (c .before .before .before .before .before .before .columns .kept .1 .1 .1 .1 .1 .0) (guess .memory);
         lists = guess .lists;
       },
     )
@@ -1109,47 +1064,46 @@ by-more-extend-requires t c κs =
 by-more-selected-requires : (t : ℕ) → by-more-lts.Need-selected-requires (by-more-calls t) (by-more-at t) by-more.Post
 by-more-selected-requires t c κs =
     let asked = c .before .before .before .before .before .before .before .before .before .before .before .before .before .before .pre .1 in
-    record {
-      problem = record { few = asked .promising .few; below = asked .promising .below };
-      all-asking = asked .all-asking;
-      deep = asked .deep;
-      room = room-kept (c .before .before .before .extend .kept .1 .1 .1 .1 .1 .1 .0 ∙ c .before .before .before .before .before .before .before .before .before .before .columns .kept .1 .1 .1 .1 .1 .0) (asked .room);
-      memory = c .before .before .before .extend .ensures .memory;
-      lists = c .before .before .before .extend .ensures .lists;
-    }
+    select-kept asked (c .before .before .before .extend .kept .1 .1 .1 .1 .1 .1 .0 ∙ c .before .before .before .before .before .before .before .before .before .before .columns .kept .1 .1 .1 .1 .1 .0) (c .before .before .before .extend .ensures .memory) (c .before .before .before .extend .ensures .lists)
 
 by-more-same-length-2 : (t : ℕ) → by-more-lts.Need-same-length-2 (by-more-calls t) (by-more-at t) by-more.Post
 by-more-same-length-2 t c = c .before .before .before .selected .kept .1 .1 .1 .1 .1 .1 .0 ∙ c .before .before .before .before .before .before .before .extend .kept .1 .1 .1 .1 .1 .1 .0 ∙ c .before .before .before .before .before .before .before .before .before .before .before .before .before .before .columns .kept .1 .1 .1 .1 .1 .0
 
-by-more-returns-2 : (t : ℕ) → by-more-lts.Need-returns-2 (by-more-calls t) (by-more-at t) by-more.Post
-by-more-returns-2 t c = (rw (c .if1 .taken) at (c .before .before .before .selected .ensures .0), c .before .before .before .selected .ensures .1)
-
 by-more-same-length-3 : (t : ℕ) → by-more-lts.Need-same-length-3 (by-more-calls t) (by-more-at t) by-more.Post
 by-more-same-length-3 t c = c .before .before .before .anew .kept .1 .1 .1 .1 .1 .0 ∙ c .before .before .before .before .before .before .before .before .selected .kept .1 .1 .1 .1 .1 .1 .0 ∙ c .before .before .before .before .before .before .before .before .before .before .before .before .extend .kept .1 .1 .1 .1 .1 .1 .0 ∙ c .before .before .before .before .before .before .before .before .before .before .before .before .before .before .before .before .before .before .before .columns .kept .1 .1 .1 .1 .1 .0
-
-by-more-returns-3 : (t : ℕ) → by-more-lts.Need-returns-3 (by-more-calls t) (by-more-at t) by-more.Post
-by-more-returns-3 t c = (c .before .before .before .anew .ensures .answers (c .if2 .taken), c .before .before .before .anew .ensures .memory)
 
 by-more-anew-requires : (t : ℕ) → by-more-lts.Need-anew-requires (by-more-calls t) (by-more-at t) by-more.Post
 by-more-anew-requires t c κs =
     let asked = c .before .before .before .before .before .before .before .before .before .before .before .before .before .before .before .before .before .before .before .pre .1 in (
       omega (arith, c .before .before .before .before .before .before .before .before .before .before .before .before .before .before .before .before .before .before .before .pre .0),
-      record {
-        promising = asked .promising;
-        deep = asked .deep;
-        all-asking = asked .all-asking;
-        room = room-kept (c .before .before .before .before .selected .kept .1 .1 .1 .1 .1 .1 .0 ∙ c .before .before .before .before .before .before .before .before .extend .kept .1 .1 .1 .1 .1 .1 .0 ∙ c .before .before .before .before .before .before .before .before .before .before .before .before .before .before .before .columns .kept .1 .1 .1 .1 .1 .0) (asked .room);
-        memory = c .before .before .before .before .selected .ensures .1;
-      },
+      problem-kept asked (c .before .before .before .before .selected .kept .1 .1 .1 .1 .1 .1 .0 ∙ c .before .before .before .before .before .before .before .before .extend .kept .1 .1 .1 .1 .1 .1 .0 ∙ c .before .before .before .before .before .before .before .before .before .before .before .before .before .before .before .columns .kept .1 .1 .1 .1 .1 .0) (c .before .before .before .before .selected .ensures .1),
     )
 
 by-more-same-length-4 : (t : ℕ) → by-more-lts.Need-same-length-4 (by-more-calls t) (by-more-at t) by-more.Post
 by-more-same-length-4 t c = c .before .before .before .anew .kept .1 .1 .1 .1 .1 .0 ∙ c .before .before .before .before .before .before .before .before .selected .kept .1 .1 .1 .1 .1 .1 .0 ∙ c .before .before .before .before .before .before .before .before .before .before .before .before .extend .kept .1 .1 .1 .1 .1 .1 .0 ∙ c .before .before .before .before .before .before .before .before .before .before .before .before .before .before .before .before .before .before .before .columns .kept .1 .1 .1 .1 .1 .0
 
-by-more-returns-4 : (t : ℕ) → by-more-lts.Need-returns-4 (by-more-calls t) (by-more-at t) by-more.Post
-by-more-returns-4 t c = (tt, c .before .before .before .anew .ensures .memory)
+by-more-spec : {M : Type 1} (t : ℕ) → by-more-lts.Closed (by-more-calls t) (by-more-at t) by-more.Post M
+by-more-spec t =
+    by-more-lts.spec (by-more-calls t) (by-more-at t) by-more.Post
+    (λ c κs. search needs)
+    (λ c. search needs)
+    (λ c. search needs)
+    (λ c. search (needs, guess-memory))
+    (by-more-extend-requires t)
+    (by-more-selected-requires t)
+    (by-more-same-length-2 t)
+    (λ c. (rw (c .if1 .taken) at (c .before .before .before .selected .ensures .0), c .before .before .before .selected .ensures .1))
+    (by-more-anew-requires t)
+    (by-more-same-length-3 t)
+    (λ c. (c .before .before .before .anew .ensures .answers (c .if2 .taken), c .before .before .before .anew .ensures .memory))
+    (by-more-same-length-4 t)
+    (λ c. search needs)
 
 -- ---- anew
+
+abbrev anew-calls : ℕ → anew-lts.Claims
+anew-calls t =
+    (highest-reads.Asked, highest-reads.Learnt, without-reads.Asked, without-reads.Learnt, greedy-below t, greedy.Post)
 
 abbrev anew-Inv-loop : anew-lts.InvT-loop
 anew-Inv-loop entries q all depth level work₀ rest₀ work rest =
@@ -1170,27 +1124,8 @@ order-small t c =
     let asked = c .before .before .before .before .before .before .pre .1 in
     omega (arith, chosen-below asked (c .before .before .before .loop .inv .0) _ (order-in t c), asked .promising .few)
 
-anew-loop-holds : (t : ℕ) → anew-lts.Need-loop-holds (anew-calls t) (anew-at t) anew.Post anew-Inv-loop anew-μ-loop
-anew-loop-holds t c = (λ i h. h, refl, c .before .before .pre .1 .memory)
-
-anew-same-length : (t : ℕ) → anew-lts.Need-same-length (anew-calls t) (anew-at t) anew.Post anew-Inv-loop anew-μ-loop
-anew-same-length t c = c .before .before .before .loop .inv .1
-
 anew-returns : (t : ℕ) → anew-lts.Need-returns (anew-calls t) (anew-at t) anew.Post anew-Inv-loop anew-μ-loop
 anew-returns t c = record { answers = λ e. absurd (false≢true e); memory = c .before .before .before .loop .inv .2 }
-
-anew-greedy-requires : (t : ℕ) → anew-lts.Need-greedy-requires (anew-calls t) (anew-at t) anew.Post anew-Inv-loop anew-μ-loop
-anew-greedy-requires t c κs =
-    let asked = c .before .before .before .before .before .before .before .before .before .pre .1 in (
-      omega (arith, c .before .before .before .before .before .before .before .before .before .pre .0),
-      record {
-        promising = asked .promising;
-        deep = asked .deep;
-        all-asking = asked .all-asking;
-        room = room-kept (c .before .before .before .before .before .before .loop .inv .1) (asked .room);
-        memory = c .before .before .before .before .before .before .loop .inv .2;
-      },
-    )
 
 anew-same-length-2 : (t : ℕ) → anew-lts.Need-same-length-2 (anew-calls t) (anew-at t) anew.Post anew-Inv-loop anew-μ-loop
 anew-same-length-2 t c = c .before .before .before .greedy .kept .1 .1 .1 .1 .1 .1 .0 ∙ c .before .before .before .before .before .before .before .before .before .before .loop .inv .1
@@ -1208,7 +1143,27 @@ anew-loop-again t c = (
   c .before .before .before .greedy .ensures .memory,
 )
 
+anew-spec : {M : Type 1} (t : ℕ) → anew-lts.Closed (anew-calls t) (anew-at t) anew.Post M
+anew-spec t =
+    anew-lts.spec (anew-calls t) (anew-at t) anew.Post anew-Inv-loop anew-μ-loop
+    (λ c. search needs)
+    (λ c κs. search needs)
+    (λ c. search needs)
+    (λ c. search needs)
+    (λ c. search needs)
+    (anew-returns t)
+    (λ c κs. search needs)
+    (λ c κs. search (needs, problem-kept))
+    (anew-same-length-2 t)
+    (anew-returns-2 t)
+    (anew-loop-less t)
+    (anew-loop-again t)
+
 -- ---- extend
+
+abbrev extend-calls : ℕ → extend-lts.Claims
+extend-calls t =
+    (highest-reads.Asked, highest-reads.Learnt, without-reads.Asked, without-reads.Learnt, minus-reads.Asked, minus-reads.Learnt, seed-below t, seed.Post, also-new-reads.Asked, also-new-reads.Learnt)
 
 abbrev extend-Inv-loop : extend-lts.InvT-loop
 extend-Inv-loop entries q all k depth level work₀ listed₀ rest₀ work listed rest =
@@ -1229,15 +1184,6 @@ seed-small t c =
     let asked = c .before .before .before .before .before .before .pre .1 .problem in
     omega (arith, chosen-below asked (c .before .before .before .loop .inv .0) _ (seed-in t c), asked .promising .few)
 
-extend-loop-holds : (t : ℕ) → extend-lts.Need-loop-holds (extend-calls t) (extend-at t) extend.Post extend-Inv-loop extend-μ-loop
-extend-loop-holds t c = (λ i h. h, refl, record { lists = c .before .before .pre .1 .lists; memory = c .before .before .pre .1 .problem .memory })
-
-extend-same-length : (t : ℕ) → extend-lts.Need-same-length (extend-calls t) (extend-at t) extend.Post extend-Inv-loop extend-μ-loop
-extend-same-length t c = c .before .before .before .loop .inv .1
-
-extend-returns : (t : ℕ) → extend-lts.Need-returns (extend-calls t) (extend-at t) extend.Post extend-Inv-loop extend-μ-loop
-extend-returns t c = c .before .before .before .loop .inv .2
-
 extend-seed-requires : (t : ℕ) → extend-lts.Need-seed-requires (extend-calls t) (extend-at t) extend.Post extend-Inv-loop extend-μ-loop
 extend-seed-requires t c κs =
     let asked = c .before .before .before .before .before .before .before .before .before .before .pre .1 .problem in
@@ -1245,13 +1191,7 @@ extend-seed-requires t c κs =
     let rest = member (c .before .before .before .before .before .before .before .loop .rest) in (
       omega (arith, c .before .before .before .before .before .before .before .before .before .before .pre .0),
       (
-        record {
-          promising = asked .promising;
-          deep = asked .deep;
-          all-asking = asked .all-asking;
-          room = room-kept (inv .1) (asked .room);
-          memory = inv .2 .memory;
-        },
+        problem-kept asked (inv .1) (inv .2 .memory),
         rw (c .before .minus .ensures) (λ j h. inv .0 j (both-parts true (rest j) _ h .0)),
         rw (c .before .before .without .ensures) (λ j h. inv .0 j (removed-within rest (c .before .before .before .before .i .given .0 .0) j h)),
       ),
@@ -1280,23 +1220,34 @@ extend-loop-again t c =
       listed-new P (a .depth) (a .level) mid _ (c .before .before .before .before .before .before .seed .result) fits (lists-kept P fits (c .before .before .before .before .before .before .before .before .before .before .before .before .before .before .loop .work) mid (seed .same) (inv .2 .lists)) (seed .memory) (seed .fit) _ (c .before .before .also-new .ensures),
     )
 
+extend-spec : {M : Type 1} (t : ℕ) → extend-lts.Closed (extend-calls t) (extend-at t) extend.Post M
+extend-spec t =
+    extend-lts.spec (extend-calls t) (extend-at t) extend.Post extend-Inv-loop extend-μ-loop
+    (λ c. search needs)
+    (λ c κs. search needs)
+    (λ c. search needs)
+    (λ c. search needs)
+    (λ c. search needs)
+    (λ c. search needs)
+    (λ c κs. search needs)
+    (λ c κs. search needs)
+    (extend-seed-requires t)
+    (extend-also-new-requires t)
+    (extend-loop-less t)
+    (extend-loop-again t)
+
 -- ---- seed
 
-seed-closed-requires : (t : ℕ) → seed-lts.Need-closed-requires (seed-calls t) (seed-at t) seed.Post
-seed-closed-requires t c κs = record { few = c .before .before .pre .1 .0 .promising .few; below = c .before .before .pre .1 .0 .promising .below }
+abbrev seed-calls : ℕ → seed-lts.Claims
+seed-calls t =
+    (closed-reads.Asked, closed-reads.Learnt, intersection-reads.Asked, intersection-reads.Learnt, empty-reads.Asked, empty-reads.Learnt, grown-below t, grown.Post)
 
 seed-grown-requires : (t : ℕ) → seed-lts.Need-grown-requires (seed-calls t) (seed-at t) seed.Post
 seed-grown-requires t c κs =
     let start = c .before .before .before .before .before .before in
     let asked = start .pre .1 .0 in (
       omega (arith, start .pre .0),
-      record {
-        promising = promising-of (asked .promising) (either-made (member (c .before .empty .result)) (member (c .before .before .intersection .result)) (rw (c .before .empty .ensures) (λ i h. absurd (false≢true h))) (λ i h. rw (asked .all-asking) at (both-parts true (member (c .before .before .before .closed .result) i) _ (rw (c .before .before .intersection .ensures) at h) .1)));
-        fit = inl (c .before .empty .ensures);
-        deep = asked .deep;
-        room = asked .room;
-        memory = asked .memory;
-      },
+      grow-asked asked (rw (c .before .empty .ensures) (λ i h. absurd (false≢true h))) (λ i h. rw (asked .all-asking) at (both-parts true (member (c .before .before .before .closed .result) i) _ (rw (c .before .before .intersection .ensures) at h) .1)) (inl (c .before .empty .ensures)) refl (asked .memory),
     )
 
 seed-grown-requires-2 : (t : ℕ) → seed-lts.Need-grown-requires-2 (seed-calls t) (seed-at t) seed.Post
@@ -1304,13 +1255,7 @@ seed-grown-requires-2 t c κs =
     let start = c .before .before .before .before .before .before .before .before .before .before in
     let asked = start .pre .1 .0 in (
       omega (arith, start .pre .0),
-      record {
-        promising = promising-of (asked .promising) (either-made (member (c .before .before .before .grown .result)) (member (start .args .first)) (c .before .before .before .grown .ensures .promising .within) (λ i h. rw (asked .all-asking) at (start .pre .1 .1 i h)));
-        fit = c .before .before .before .grown .ensures .fit;
-        deep = asked .deep;
-        room = room-kept (c .before .before .before .grown .kept .1 .1 .1 .1 .1 .1 .0) (asked .room);
-        memory = c .before .before .before .grown .ensures .memory;
-      },
+      grow-asked asked (c .before .before .before .grown .ensures .promising .within) (λ i h. rw (asked .all-asking) at (start .pre .1 .1 i h)) (c .before .before .before .grown .ensures .fit) (c .before .before .before .grown .kept .1 .1 .1 .1 .1 .1 .0) (c .before .before .before .grown .ensures .memory),
     )
 
 seed-grown-requires-3 : (t : ℕ) → seed-lts.Need-grown-requires-3 (seed-calls t) (seed-at t) seed.Post
@@ -1318,13 +1263,7 @@ seed-grown-requires-3 t c κs =
     let start = c .before .before .before .before .before .before .before .before .before .before .before .before .before .before in
     let asked = start .pre .1 .0 in (
       omega (arith, start .pre .0),
-      record {
-        promising = promising-of (asked .promising) (either-made (member (c .before .before .before .grown2 .result)) (member (start .args .second)) (c .before .before .before .grown2 .ensures .promising .within) (λ i h. rw (asked .all-asking) at (start .pre .1 .2 i h)));
-        fit = c .before .before .before .grown2 .ensures .fit;
-        deep = asked .deep;
-        room = room-kept (c .before .before .before .grown2 .kept .1 .1 .1 .1 .1 .1 .0 ∙ c .before .before .before .before .before .before .before .grown .kept .1 .1 .1 .1 .1 .1 .0) (asked .room);
-        memory = c .before .before .before .grown2 .ensures .memory;
-      },
+      grow-asked asked (c .before .before .before .grown2 .ensures .promising .within) (λ i h. rw (asked .all-asking) at (start .pre .1 .2 i h)) (c .before .before .before .grown2 .ensures .fit) (c .before .before .before .grown2 .kept .1 .1 .1 .1 .1 .1 .0 ∙ c .before .before .before .before .before .before .before .grown .kept .1 .1 .1 .1 .1 .1 .0) (c .before .before .before .grown2 .ensures .memory),
     )
 
 seed-grown-requires-4 : (t : ℕ) → seed-lts.Need-grown-requires-4 (seed-calls t) (seed-at t) seed.Post
@@ -1332,13 +1271,7 @@ seed-grown-requires-4 t c κs =
     let start = c .before .before .before .before .before .before .before .before .before .before .before .before .before .before .before .before .before .before in
     let asked = start .pre .1 .0 in (
       omega (arith, start .pre .0),
-      record {
-        promising = promising-of (asked .promising) (either-made (member (c .before .before .before .grown3 .result)) (member (start .args .all)) (c .before .before .before .grown3 .ensures .promising .within) (λ i h. rw (asked .all-asking) at h));
-        fit = c .before .before .before .grown3 .ensures .fit;
-        deep = asked .deep;
-        room = room-kept (c .before .before .before .grown3 .kept .1 .1 .1 .1 .1 .1 .0 ∙ c .before .before .before .before .before .before .before .grown2 .kept .1 .1 .1 .1 .1 .1 .0 ∙ c .before .before .before .before .before .before .before .before .before .before .before .grown .kept .1 .1 .1 .1 .1 .1 .0) (asked .room);
-        memory = c .before .before .before .grown3 .ensures .memory;
-      },
+      grow-asked asked (c .before .before .before .grown3 .ensures .promising .within) (λ i h. rw (asked .all-asking) at h) (c .before .before .before .grown3 .ensures .fit) (c .before .before .before .grown3 .kept .1 .1 .1 .1 .1 .1 .0 ∙ c .before .before .before .before .before .before .before .grown2 .kept .1 .1 .1 .1 .1 .1 .0 ∙ c .before .before .before .before .before .before .before .before .before .before .before .grown .kept .1 .1 .1 .1 .1 .1 .0) (c .before .before .before .grown3 .ensures .memory),
     )
 
 seed-same-length : (t : ℕ) → seed-lts.Need-same-length (seed-calls t) (seed-at t) seed.Post
@@ -1349,7 +1282,24 @@ seed-returns t c =
     let last = c .before .before .grown4 .ensures in
     record { promising = last .promising; fit = last .fit; same = last .same ∙ c .before .before .before .before .before .before .grown3 .ensures .same ∙ c .before .before .before .before .before .before .before .before .before .before .grown2 .ensures .same ∙ c .before .before .before .before .before .before .before .before .before .before .before .before .before .before .grown .ensures .same; memory = last .memory }
 
+seed-spec : {M : Type 1} (t : ℕ) → seed-lts.Closed (seed-calls t) (seed-at t) seed.Post M
+seed-spec t =
+    seed-lts.spec (seed-calls t) (seed-at t) seed.Post
+    (λ c κs. search needs)
+    (λ c κs. search needs)
+    (λ c κs. search needs)
+    (seed-grown-requires t)
+    (seed-grown-requires-2 t)
+    (seed-grown-requires-3 t)
+    (seed-grown-requires-4 t)
+    (seed-same-length t)
+    (seed-returns t)
+
 -- ---- refute
+
+abbrev refute-calls : ℕ → refute-lts.Claims
+refute-calls t =
+    (narrowed-reads.Asked, narrowed-reads.Learnt, asking-reads.Asked, asking-reads.Learnt, by-list-below t, by-list.Post, learn-refuted-reads.Asked, learn-refuted-reads.Learnt)
 
 -- what is wanted of the part
 part-fewer : (t : ℕ) (c : refute-lts.After-narrowed (refute-calls t) (refute-at t) refute.Post)
@@ -1398,13 +1348,27 @@ refute-same-length t c = c .before .before .learn-refuted .kept .1 .1 .1 .1 .0 �
 refute-returns : (t : ℕ) → refute-lts.Need-returns (refute-calls t) (refute-at t) refute.Post
 refute-returns t c = (λ e s. (rw (c .before .before .before .before .enum-told .given .1) at (c .before .before .before .before .before .before .before .before .by-list .ensures .0)) (narrowed-solvable (c .before .before .before .before .before .before .before .before .before .before .before .before .before .before .args .entries .now) (c .before .before .before .before .before .before .before .before .before .before .before .narrowed .ensures) s), c .before .before .learn-refuted .ensures .memory)
 
-refute-same-length-2 : (t : ℕ) → refute-lts.Need-same-length-2 (refute-calls t) (refute-at t) refute.Post
-refute-same-length-2 t c = c .before .before .before .by-list .kept .1 .1 .1 .1 .1 .0
-
 refute-returns-2 : (t : ℕ) → refute-lts.Need-returns-2 (refute-calls t) (refute-at t) refute.Post
 refute-returns-2 t c = (λ e. absurd (false≢true e), c .before .before .before .by-list .ensures .1)
 
+refute-spec : {M : Type 1} (t : ℕ) → refute-lts.Closed (refute-calls t) (refute-at t) refute.Post M
+refute-spec t =
+    refute-lts.spec (refute-calls t) (refute-at t) refute.Post
+    (λ c κs. search needs)
+    (refute-asking-requires t)
+    (refute-by-list-requires t)
+    (λ c. search needs)
+    (refute-learn-refuted-requires t)
+    (refute-same-length t)
+    (refute-returns t)
+    (λ c. search needs)
+    (refute-returns-2 t)
+
 -- ---- columns
+
+abbrev columns-calls : ℕ → columns-lts.Claims
+columns-calls t =
+    (weighs-reads.Asked, weighs-reads.Learnt, prices-behind-reads.Asked, prices-behind-reads.Learnt, column-below t, column.Post, pays-reads.Asked, pays-reads.Learnt, weighted-reads.Asked, weighted-reads.Learnt, blamed-reads.Asked, blamed-reads.Learnt, also-reads.Asked, also-reads.Learnt)
 
 abbrev columns-Inv-loop : columns-lts.InvT-loop
 columns-Inv-loop entries q all depth level work₀ k₀ work k =
@@ -1412,20 +1376,6 @@ columns-Inv-loop entries q all depth level work₀ k₀ work k =
 
 abbrev columns-μ-loop : columns-lts.MeasureT-loop
 columns-μ-loop entries q all depth level work₀ k₀ work k = listRoom (length entries) - k
-
-columns-loop-holds : (t : ℕ) → columns-lts.Need-loop-holds (columns-calls t) (columns-at t) columns.Post columns-Inv-loop columns-μ-loop
-columns-loop-holds t c = let a = c .before .before .args in (lists-none (problemOf (a .entries .now) (a .q)) (a .level) (a .work .now), refl, c .before .before .pre .1 .memory)
-
-columns-weighs-requires : (t : ℕ) → columns-lts.Need-weighs-requires (columns-calls t) (columns-at t) columns.Post columns-Inv-loop columns-μ-loop
-columns-weighs-requires t c κs =
-    let asked = c .before .before .before .before .pre .1 in
-    record { problem = record { few = asked .promising .few; below = asked .promising .below }; room = room-kept (c .before .loop .inv .1) (asked .room); memory = c .before .loop .inv .2; lists = c .before .loop .inv .0 }
-
-columns-same-length : (t : ℕ) → columns-lts.Need-same-length (columns-calls t) (columns-at t) columns.Post columns-Inv-loop columns-μ-loop
-columns-same-length t c = c .before .before .before .weighs .kept .1 .1 .1 .1 .1 .0 ∙ c .before .before .before .before .before .loop .inv .1
-
-columns-returns : (t : ℕ) → columns-lts.Need-returns (columns-calls t) (columns-at t) columns.Post columns-Inv-loop columns-μ-loop
-columns-returns t c = c .before .before .before .weighs .ensures
 
 columns-prices-behind-requires : (t : ℕ) → columns-lts.Need-prices-behind-requires (columns-calls t) (columns-at t) columns.Post columns-Inv-loop columns-μ-loop
 columns-prices-behind-requires t c κs =
@@ -1437,13 +1387,10 @@ columns-column-requires : (t : ℕ) → columns-lts.Need-column-requires (column
 columns-column-requires t c κs =
     let start = (c .before .before .before .before .before .before .before .before .before .before .before) in
     let asked = start .pre .1 in
-    (omega (arith, start .pre .0), record { promising = asked .promising; deep = asked .deep; all-asking = asked .all-asking; room = room-kept (c .before .before .before .before .before .before .weighs .kept .1 .1 .1 .1 .1 .0 ∙ c .before .before .before .before .before .before .before .before .loop .inv .1) (asked .room); memory = c .before .before .before .before .before .before .weighs .ensures .memory })
+    (omega (arith, start .pre .0), problem-kept asked (c .before .before .before .before .before .before .weighs .kept .1 .1 .1 .1 .1 .0 ∙ c .before .before .before .before .before .before .before .before .loop .inv .1) (c .before .before .before .before .before .before .weighs .ensures .memory))
 
 columns-same-length-2 : (t : ℕ) → columns-lts.Need-same-length-2 (columns-calls t) (columns-at t) columns.Post columns-Inv-loop columns-μ-loop
 columns-same-length-2 t c = c .before .before .before .before .before .before .column .kept .1 .1 .1 .1 .1 .1 .0 ∙ c .before .before .before .before .before .before .before .before .before .before .before .before .before .weighs .kept .1 .1 .1 .1 .1 .0 ∙ c .before .before .before .before .before .before .before .before .before .before .before .before .before .before .before .loop .inv .1
-
-columns-returns-2 : (t : ℕ) → columns-lts.Need-returns-2 (columns-calls t) (columns-at t) columns.Post columns-Inv-loop columns-μ-loop
-columns-returns-2 t c = c .before .before .before .before .before .before .column .ensures .memory
 
 columns-also-requires : (t : ℕ) → columns-lts.Need-also-requires (columns-calls t) (columns-at t) columns.Post columns-Inv-loop columns-μ-loop
 columns-also-requires t c κs =
@@ -1479,10 +1426,33 @@ columns-same-length-3 t c = c .before .before .before .before .also .kept .1 .1 
 columns-returns-3 : (t : ℕ) → columns-lts.Need-returns-3 (columns-calls t) (columns-at t) columns.Post columns-Inv-loop columns-μ-loop
 columns-returns-3 t c = (rw (c .enum-told .given .1) at (column-listed t (c .before .before .before .before))) .memory
 
-columns-blamed-requires : (t : ℕ) → columns-lts.Need-blamed-requires (columns-calls t) (columns-at t) columns.Post columns-Inv-loop columns-μ-loop
-columns-blamed-requires t c κs = record { few = c .before .before .before .before .before .before .before .before .before .before .before .before .before .before .before .before .before .pre .1 .promising .few; below = c .before .before .before .before .before .before .before .before .before .before .before .before .before .before .before .before .before .pre .1 .promising .below }
+columns-spec : {M : Type 1} (t : ℕ) → columns-lts.Closed (columns-calls t) (columns-at t) columns.Post M
+columns-spec t =
+    columns-lts.spec (columns-calls t) (columns-at t) columns.Post columns-Inv-loop columns-μ-loop
+    (λ c. search (needs, lists-none))
+    (λ c κs. search (needs, room-kept))
+    (λ c. c .before .before .before .weighs .kept .1 .1 .1 .1 .1 .0 ∙ c .before .before .before .before .before .loop .inv .1)
+    (λ c. search needs)
+    (columns-prices-behind-requires t)
+    (columns-column-requires t)
+    (λ c κs. search needs)
+    (λ c κs. search needs)
+    (λ c κs. search needs)
+    (columns-same-length-2 t)
+    (λ c. search needs)
+    (columns-also-requires t)
+    (λ c. search needs)
+    (columns-loop-less t)
+    (columns-loop-again t)
+    (λ c. search needs)
+    (columns-same-length-3 t)
+    (columns-returns-3 t)
 
 -- ---- column
+
+abbrev column-calls : ℕ → column-lts.Claims
+column-calls t =
+    (closed-reads.Asked, closed-reads.Learnt, intersection-reads.Asked, intersection-reads.Learnt, empty-reads.Asked, empty-reads.Learnt, grown-below t, grown.Post, grown-by-below t, grown-by.Post, weighted-reads.Asked, weighted-reads.Learnt, pays-reads.Asked, pays-reads.Learnt, highest-reads.Asked, highest-reads.Learnt, without-reads.Asked, without-reads.Learnt, minus-reads.Asked, minus-reads.Learnt)
 
 abbrev column-Inv-loop : column-lts.InvT-loop
 column-Inv-loop entries q all prices depth level work₀ low set₀ rest₀ work set rest =
@@ -1490,9 +1460,6 @@ column-Inv-loop entries q all prices depth level work₀ low set₀ rest₀ work
 
 abbrev column-μ-loop : column-lts.MeasureT-loop
 column-μ-loop entries q all prices depth level work₀ low set₀ rest₀ work set rest = count (member rest) 64
-
-column-closed-requires : (t : ℕ) → column-lts.Need-closed-requires (column-calls t) (column-at t) column.Post column-Inv-loop column-μ-loop
-column-closed-requires t c κs = record { few = c .before .before .pre .1 .promising .few; below = c .before .before .pre .1 .promising .below }
 
 column-grown-requires : (t : ℕ) → column-lts.Need-grown-requires (column-calls t) (column-at t) column.Post column-Inv-loop column-μ-loop
 column-grown-requires t c κs =
@@ -1502,13 +1469,7 @@ column-grown-requires t c κs =
     let nothing-in : Within (member (c .before .empty .result)) (asking Q) = rw (c .before .empty .ensures) (λ i h. absurd (false≢true h)) in
     let base-in : Within (member (c .before .before .intersection .result)) (asking Q) = λ i h. rw (asked .all-asking) at (both-parts true (member (c .before .before .before .closed .result) i) _ (rw (c .before .before .intersection .ensures) at h) .1) in (
       omega (arith, start .pre .0),
-      record {
-        promising = promising-of (asked .promising) (either-made (member (c .before .empty .result)) (member (c .before .before .intersection .result)) nothing-in base-in);
-        fit = inl (c .before .empty .ensures);
-        deep = asked .deep;
-        room = asked .room;
-        memory = asked .memory;
-      },
+      grow-asked asked nothing-in base-in (inl (c .before .empty .ensures)) refl (asked .memory),
     )
 
 column-grown-by-requires : (t : ℕ) → column-lts.Need-grown-by-requires (column-calls t) (column-at t) column.Post column-Inv-loop column-μ-loop
@@ -1517,13 +1478,7 @@ column-grown-by-requires t c κs =
     let asked = start .pre .1 in
     let low = c .before .before .before .grown .ensures in (
       omega (arith, start .pre .0),
-      record {
-        promising = promising-of (asked .promising) (either-made (member (c .before .before .before .grown .result)) (member (start .args .all)) (low .promising .within) (λ i h. rw (asked .all-asking) at h));
-        fit = low .fit;
-        deep = asked .deep;
-        room = room-kept (c .before .before .before .grown .kept .1 .1 .1 .1 .1 .1 .0) (asked .room);
-        memory = low .memory;
-      },
+      grow-asked asked (low .promising .within) (λ i h. rw (asked .all-asking) at h) (low .fit) (c .before .before .before .grown .kept .1 .1 .1 .1 .1 .1 .0) (low .memory),
     )
 
 column-loop-holds : (t : ℕ) → column-lts.Need-loop-holds (column-calls t) (column-at t) column.Post column-Inv-loop column-μ-loop
@@ -1559,13 +1514,7 @@ column-grown-requires-2 t c κs =
     let inv = c .before .before .before .before .before .before .before .before .before .loop .inv in
     let low = c .before .before .before .before .before .before .before .before .before .before .before .before .before .before .before .before .before .before .grown .ensures in (
       omega (arith, start .pre .0),
-      record {
-        promising = promising-of (asked .promising) (either-made (member (c .before .before .before .before .before .before .before .before .before .before .before .before .before .before .before .before .before .before .grown .result)) (member (c .before .minus .result)) (low .promising .within) (λ i h. rw (asked .all-asking) at (inv .2 i (both-parts true (member (c .before .before .before .before .before .before .before .before .before .loop .rest) i) _ (rw (c .before .minus .ensures) at h) .0))));
-        fit = low .fit;
-        deep = asked .deep;
-        room = room-kept (inv .3 ∙ c .before .before .before .before .before .before .before .before .before .before .before .before .before .before .grown-by .kept .1 .1 .1 .1 .1 .1 .1 .0 ∙ c .before .before .before .before .before .before .before .before .before .before .before .before .before .before .before .before .before .before .grown .kept .1 .1 .1 .1 .1 .1 .0) (asked .room);
-        memory = inv .5;
-      },
+      grow-asked asked (low .promising .within) (λ i h. rw (asked .all-asking) at (inv .2 i (both-parts true (member (c .before .before .before .before .before .before .before .before .before .loop .rest) i) _ (rw (c .before .minus .ensures) at h) .0))) (low .fit) (inv .3 ∙ c .before .before .before .before .before .before .before .before .before .before .before .before .before .before .grown-by .kept .1 .1 .1 .1 .1 .1 .1 .0 ∙ c .before .before .before .before .before .before .before .before .before .before .before .before .before .before .before .before .before .before .grown .kept .1 .1 .1 .1 .1 .1 .0) (inv .5),
     )
 
 column-grown-by-requires-2 : (t : ℕ) → column-lts.Need-grown-by-requires-2 (column-calls t) (column-at t) column.Post column-Inv-loop column-μ-loop
@@ -1574,13 +1523,7 @@ column-grown-by-requires-2 t c κs =
     let asked = start .pre .1 in
     let one = c .before .before .before .grown2 .ensures in (
       omega (arith, start .pre .0),
-      record {
-        promising = promising-of (asked .promising) (either-made (member (c .before .before .before .grown2 .result)) (member (start .args .all)) (one .promising .within) (λ i h. rw (asked .all-asking) at h));
-        fit = one .fit;
-        deep = asked .deep;
-        room = room-kept (c .before .before .before .grown2 .kept .1 .1 .1 .1 .1 .1 .0 ∙ c .before .before .before .before .before .before .before .before .before .before .before .before .before .loop .inv .3 ∙ c .before .before .before .before .before .before .before .before .before .before .before .before .before .before .before .before .before .before .grown-by .kept .1 .1 .1 .1 .1 .1 .1 .0 ∙ c .before .before .before .before .before .before .before .before .before .before .before .before .before .before .before .before .before .before .before .before .before .before .grown .kept .1 .1 .1 .1 .1 .1 .0) (asked .room);
-        memory = one .memory;
-      },
+      grow-asked asked (one .promising .within) (λ i h. rw (asked .all-asking) at h) (one .fit) (c .before .before .before .grown2 .kept .1 .1 .1 .1 .1 .1 .0 ∙ c .before .before .before .before .before .before .before .before .before .before .before .before .before .loop .inv .3 ∙ c .before .before .before .before .before .before .before .before .before .before .before .before .before .before .before .before .before .before .grown-by .kept .1 .1 .1 .1 .1 .1 .1 .0 ∙ c .before .before .before .before .before .before .before .before .before .before .before .before .before .before .before .before .before .before .before .before .before .before .grown .kept .1 .1 .1 .1 .1 .1 .0) (one .memory),
     )
 
 column-loop-less : (t : ℕ) → column-lts.Need-loop-less (column-calls t) (column-at t) column.Post column-Inv-loop column-μ-loop
@@ -1598,7 +1541,37 @@ column-loop-again t c =
       set .memory,
     )
 
+column-spec : {M : Type 1} (t : ℕ) → column-lts.Closed (column-calls t) (column-at t) column.Post M
+column-spec t =
+    column-lts.spec (column-calls t) (column-at t) column.Post column-Inv-loop column-μ-loop
+    (λ c κs. search needs)
+    (λ c κs. search needs)
+    (λ c κs. search needs)
+    (column-grown-requires t)
+    (column-grown-by-requires t)
+    (λ c κs. search needs)
+    (λ c κs. search needs)
+    (column-loop-holds t)
+    (λ c κs. search needs)
+    (column-same-length t)
+    (column-returns t)
+    (λ c κs. search needs)
+    (λ c. search needs)
+    (λ c. search needs)
+    (column-same-length-2 t)
+    (column-returns-2 t)
+    (λ c κs. search needs)
+    (λ c κs. search needs)
+    (column-grown-requires-2 t)
+    (column-grown-by-requires-2 t)
+    (column-loop-less t)
+    (column-loop-again t)
+
 -- ---- greedy
+
+abbrev greedy-calls : ℕ → greedy-lts.Claims
+greedy-calls t =
+    (met-reads.Asked, met-reads.Learnt, unmet-reads.Asked, unmet-reads.Learnt, intersection-reads.Asked, intersection-reads.Learnt, used-up-reads.Asked, used-up-reads.Learnt, empty-reads.Asked, empty-reads.Learnt, foremost-reads.Asked, foremost-reads.Learnt, grown-below t, grown.Post, useful-reads.Asked, useful-reads.Learnt, put-slot-reads.Asked, put-slot-reads.Learnt)
 
 abbrev greedy-Inv-loop : greedy-lts.InvT-loop
 greedy-Inv-loop entries q all first depth level work₀ slots₀ work slots =
@@ -1607,21 +1580,15 @@ greedy-Inv-loop entries q all first depth level work₀ slots₀ work slots =
 abbrev greedy-μ-loop : greedy-lts.MeasureT-loop
 greedy-μ-loop entries q all first depth level work₀ slots₀ work slots = gradeSum (wideAt entries) (length entries) - slots
 
-greedy-loop-holds : (t : ℕ) → greedy-lts.Need-loop-holds (greedy-calls t) (greedy-at t) greedy.Post greedy-Inv-loop greedy-μ-loop
-greedy-loop-holds t c = let a = c .before .before .args in (taken-none (problemOf (a .entries .now) (a .q)) (a .work .now), refl, c .before .before .pre .1 .memory)
-
 -- the slots are few
 greedy-few : (t : ℕ) (c : greedy-lts.At-loop (greedy-calls t) (greedy-at t) greedy.Post greedy-Inv-loop greedy-μ-loop) → Few (c .loop .work) (c .loop .slots)
 greedy-few t c =
     let a = c .before .before .before .args in
     let promising = c .before .before .before .pre .1 .promising in
-    serving-few (a .entries .now) (a .q) (c .loop .work) (c .loop .slots) (record { few = promising .few; below = promising .below }) (c .loop .inv .0 .serving) (c .loop .inv .0 .copies)
+    serving-few (a .entries .now) (a .q) (c .loop .work) (c .loop .slots) (small-of promising) (c .loop .inv .0 .serving) (c .loop .inv .0 .copies)
 
 greedy-met-requires : (t : ℕ) → greedy-lts.Need-met-requires (greedy-calls t) (greedy-at t) greedy.Post greedy-Inv-loop greedy-μ-loop
 greedy-met-requires t c κs = (greedy-few t (c .before), c .before .before .before .before .pre .1 .all-asking)
-
-greedy-same-length : (t : ℕ) → greedy-lts.Need-same-length (greedy-calls t) (greedy-at t) greedy.Post greedy-Inv-loop greedy-μ-loop
-greedy-same-length t c = c .before .before .before .loop .inv .1
 
 greedy-returns : (t : ℕ) → greedy-lts.Need-returns (greedy-calls t) (greedy-at t) greedy.Post greedy-Inv-loop greedy-μ-loop
 greedy-returns t c =
@@ -1652,13 +1619,7 @@ greedy-grown-requires t c κs =
     let inv = c .before .before .before .before .before .before .before .before .before .before .before .before .loop .inv in
     let nothing-in : Within (member (c .before .before .empty .result)) (asking (problemOf (start .args .entries .now) (start .args .q))) = rw (c .before .before .empty .ensures) (λ i h. absurd (false≢true h)) in (
       omega (arith, start .pre .0),
-      record {
-        promising = promising-of (asked .promising) (either-made (member (c .before .before .empty .result)) (member (c .before .foremost .result)) nothing-in (λ i h. open-asks t (c .before .before .before) i (c .before .foremost .ensures i h)));
-        fit = inl (c .before .before .empty .ensures);
-        deep = asked .deep;
-        room = room-kept (inv .1) (asked .room);
-        memory = inv .2;
-      },
+      grow-asked asked nothing-in (λ i h. open-asks t (c .before .before .before) i (c .before .foremost .ensures i h)) (inl (c .before .before .empty .ensures)) (inv .1) (inv .2),
     )
 
 greedy-grown-requires-2 : (t : ℕ) → greedy-lts.Need-grown-requires-2 (greedy-calls t) (greedy-at t) greedy.Post greedy-Inv-loop greedy-μ-loop
@@ -1667,13 +1628,7 @@ greedy-grown-requires-2 t c κs =
     let asked = start .pre .1 in
     let one = c .before .before .before .grown .ensures in (
       omega (arith, start .pre .0),
-      record {
-        promising = promising-of (asked .promising) (either-made (member (c .before .before .before .grown .result)) (member (c .before .before .before .before .before .before .before .intersection2 .result)) (one .promising .within) (full-asks t (c .before .before .before .before .before .before .before)));
-        fit = one .fit;
-        deep = asked .deep;
-        room = room-kept (c .before .before .before .grown .kept .1 .1 .1 .1 .1 .1 .0 ∙ c .before .before .before .before .before .before .before .before .before .before .before .before .before .before .before .before .loop .inv .1) (asked .room);
-        memory = one .memory;
-      },
+      grow-asked asked (one .promising .within) (full-asks t (c .before .before .before .before .before .before .before)) (one .fit) (c .before .before .before .grown .kept .1 .1 .1 .1 .1 .1 .0 ∙ c .before .before .before .before .before .before .before .before .before .before .before .before .before .before .before .before .loop .inv .1) (one .memory),
     )
 
 greedy-grown-requires-3 : (t : ℕ) → greedy-lts.Need-grown-requires-3 (greedy-calls t) (greedy-at t) greedy.Post greedy-Inv-loop greedy-μ-loop
@@ -1682,13 +1637,7 @@ greedy-grown-requires-3 t c κs =
     let asked = start .pre .1 in
     let safe = c .before .before .before .grown2 .ensures in (
       omega (arith, start .pre .0),
-      record {
-        promising = promising-of (asked .promising) (either-made (member (c .before .before .before .grown2 .result)) (member (c .before .before .before .before .before .before .before .before .before .before .before .before .before .before .intersection .result)) (safe .promising .within) (open-asks t (c .before .before .before .before .before .before .before .before .before .before .before)));
-        fit = safe .fit;
-        deep = asked .deep;
-        room = room-kept (c .before .before .before .grown2 .kept .1 .1 .1 .1 .1 .1 .0 ∙ c .before .before .before .before .before .before .before .grown .kept .1 .1 .1 .1 .1 .1 .0 ∙ c .before .before .before .before .before .before .before .before .before .before .before .before .before .before .before .before .before .before .before .before .loop .inv .1) (asked .room);
-        memory = safe .memory;
-      },
+      grow-asked asked (safe .promising .within) (open-asks t (c .before .before .before .before .before .before .before .before .before .before .before)) (safe .fit) (c .before .before .before .grown2 .kept .1 .1 .1 .1 .1 .1 .0 ∙ c .before .before .before .before .before .before .before .grown .kept .1 .1 .1 .1 .1 .1 .0 ∙ c .before .before .before .before .before .before .before .before .before .before .before .before .before .before .before .before .before .before .before .before .loop .inv .1) (safe .memory),
     )
 
 greedy-grown-requires-4 : (t : ℕ) → greedy-lts.Need-grown-requires-4 (greedy-calls t) (greedy-at t) greedy.Post greedy-Inv-loop greedy-μ-loop
@@ -1697,13 +1646,7 @@ greedy-grown-requires-4 t c κs =
     let asked = start .pre .1 in
     let wide = c .before .before .before .grown3 .ensures in (
       omega (arith, start .pre .0),
-      record {
-        promising = promising-of (asked .promising) (either-made (member (c .before .before .before .grown3 .result)) (member (start .args .all)) (wide .promising .within) (all-asks t (c .before .before .before .before .before .before .before .before .before .before .before .before .before .before .before .before .before .before .before .before .before .before .before .before)));
-        fit = wide .fit;
-        deep = asked .deep;
-        room = room-kept (c .before .before .before .grown3 .kept .1 .1 .1 .1 .1 .1 .0 ∙ c .before .before .before .before .before .before .before .grown2 .kept .1 .1 .1 .1 .1 .1 .0 ∙ c .before .before .before .before .before .before .before .before .before .before .before .grown .kept .1 .1 .1 .1 .1 .1 .0 ∙ c .before .before .before .before .before .before .before .before .before .before .before .before .before .before .before .before .before .before .before .before .before .before .before .before .loop .inv .1) (asked .room);
-        memory = wide .memory;
-      },
+      grow-asked asked (wide .promising .within) (all-asks t (c .before .before .before .before .before .before .before .before .before .before .before .before .before .before .before .before .before .before .before .before .before .before .before .before)) (wide .fit) (c .before .before .before .grown3 .kept .1 .1 .1 .1 .1 .1 .0 ∙ c .before .before .before .before .before .before .before .grown2 .kept .1 .1 .1 .1 .1 .1 .0 ∙ c .before .before .before .before .before .before .before .before .before .before .before .grown .kept .1 .1 .1 .1 .1 .1 .0 ∙ c .before .before .before .before .before .before .before .before .before .before .before .before .before .before .before .before .before .before .before .before .before .before .before .before .loop .inv .1) (wide .memory),
     )
 
 -- the slots are the same after the set was grown
@@ -1723,7 +1666,7 @@ greedy-useful-requires t c κs =
     let a = c .before .before .before .before .before .before .before .before .before .before .before .before .before .before .before .before .before .before .before .before .before .before .before .before .before .before .before .before .before .before .before .args in
     let promising = c .before .before .before .before .before .before .before .before .before .before .before .before .before .before .before .before .before .before .before .before .before .before .before .before .before .before .before .before .before .before .before .pre .1 .promising in
     let now = still-taken t (c .before .before .before) in
-    (serving-few (a .entries .now) (a .q) (c .before .before .before .grown4 .last .1 .1 .1 .1 .1 .1 .0) (c .before .before .before .before .before .before .before .before .before .before .before .before .before .before .before .before .before .before .before .before .before .before .before .before .before .before .before .before .loop .slots) (record { few = promising .few; below = promising .below }) (now .serving) (now .copies), now .kept)
+    (serving-few (a .entries .now) (a .q) (c .before .before .before .grown4 .last .1 .1 .1 .1 .1 .1 .0) (c .before .before .before .before .before .before .before .before .before .before .before .before .before .before .before .before .before .before .before .before .before .before .before .before .before .before .before .before .loop .slots) (small-of promising) (now .serving) (now .copies), now .kept)
 
 greedy-same-length-2 : (t : ℕ) → greedy-lts.Need-same-length-2 (greedy-calls t) (greedy-at t) greedy.Post greedy-Inv-loop greedy-μ-loop
 greedy-same-length-2 t c = grown-length t (c .before .before .before .before .before)
@@ -1758,15 +1701,50 @@ greedy-loop-again t c =
       memory-put P (a .depth) (a .level) (c .before .before .before .before .before .before .before .before .before .grown4 .last .1 .1 .1 .1 .1 .1 .0) (c .before .before .put-slot .last .0) (omega (arith, slot-room t (c .before .before .before .before), c .before .before .before .before .before .before .before .before .before .before .before .before .before .before .before .before .before .before .before .before .before .before .before .before .before .before .before .before .before .before .before .before .before .before .before .before .before .pre .1 .room .stack)) (c .before .before .put-slot .ensures) (c .before .before .before .before .before .before .before .before .before .grown4 .ensures .memory),
     )
 
+greedy-spec : {M : Type 1} (t : ℕ) → greedy-lts.Closed (greedy-calls t) (greedy-at t) greedy.Post M
+greedy-spec t =
+    greedy-lts.spec (greedy-calls t) (greedy-at t) greedy.Post greedy-Inv-loop greedy-μ-loop
+    (λ c. search (needs, taken-none))
+    (greedy-met-requires t)
+    (λ c. search needs)
+    (greedy-returns t)
+    (greedy-unmet-requires t)
+    (λ c κs. search needs)
+    (greedy-used-up-requires t)
+    (λ c κs. search needs)
+    (λ c κs. search needs)
+    (λ c κs. search needs)
+    (greedy-grown-requires t)
+    (greedy-grown-requires-2 t)
+    (greedy-grown-requires-3 t)
+    (greedy-grown-requires-4 t)
+    (greedy-useful-requires t)
+    (greedy-same-length-2 t)
+    (greedy-returns-2 t)
+    (greedy-put-slot-requires t)
+    (greedy-add-slots t)
+    (greedy-loop-less t)
+    (greedy-loop-again t)
+
 -- ---- grown
 
-grown-grown-by-requires : (t : ℕ) → grown-lts.Need-grown-by-requires (grown-calls t) (grown-at t) grown.Post
-grown-grown-by-requires t c κs = (omega (arith, c .before .before .before .before .pre .0), c .before .before .before .before .pre .1)
+abbrev grown-calls : ℕ → grown-lts.Claims
+grown-calls t =
+    (flat-reads.Asked, flat-reads.Learnt, grown-by-below t, grown-by.Post)
 
-grown-returns : (t : ℕ) → grown-lts.Need-returns (grown-calls t) (grown-at t) grown.Post
-grown-returns t c = c .before .before .grown-by .ensures
+grown-spec : {M : Type 1} (t : ℕ) → grown-lts.Closed (grown-calls t) (grown-at t) grown.Post M
+grown-spec t =
+    grown-lts.spec (grown-calls t) (grown-at t) grown.Post
+    (λ c κs. search needs)
+    (λ c κs. search needs)
+    (λ c. search needs)
+    (λ c. search needs)
 
 -- ---- grown_by
+
+abbrev grown-by-calls : ℕ → grown-by-lts.Claims
+grown-by-calls t =
+    (heaviest-reads.Asked, heaviest-reads.Learnt, highest-reads.Asked, highest-reads.Learnt, without-reads.Asked, without-reads.Learnt, with-reads.Asked, with-reads.Learnt, keeps-below t, keeps.Post)
 
 abbrev grown-by-Inv-loop : grown-by-lts.InvT-loop
 grown-by-Inv-loop entries q prices depth level work₀ set₀ rest₀ work set rest =
@@ -1780,12 +1758,6 @@ grown-by-loop-holds t c =
     let a = c .before .before .args in
     let asked = c .before .before .pre .1 in
     (λ i h. asked .promising .within i (either-left (member (a .low)) (member (a .free)) i h), λ i h. asked .promising .within i (either-right (member (a .low)) (member (a .free)) i h), asked .fit, refl, refl, asked .memory)
-
-grown-by-same-length : (t : ℕ) → grown-by-lts.Need-same-length (grown-by-calls t) (grown-by-at t) grown-by.Post grown-by-Inv-loop grown-by-μ-loop
-grown-by-same-length t c = c .before .before .before .before .loop .inv .3
-
-grown-by-returns : (t : ℕ) → grown-by-lts.Need-returns (grown-by-calls t) (grown-by-at t) grown-by.Post grown-by-Inv-loop grown-by-μ-loop
-grown-by-returns t c = let inv = c .before .before .before .before .loop .inv in record { promising = promising-of (c .before .before .before .before .before .before .before .pre .1 .promising) (inv .0); fit = inv .2; same = inv .4; memory = inv .5 }
 
 -- the member that is tried next
 next-in : (t : ℕ) (c : grown-by-lts.After-i (grown-by-calls t) (grown-by-at t) grown-by.Post grown-by-Inv-loop grown-by-μ-loop) → member (c .before .before .before .before .loop .rest) (c .i .given .0 .0) ≡ true
@@ -1840,7 +1812,29 @@ grown-by-loop-again-2 t c =
       c .before .before .before .keeps .ensures .memory,
     )
 
+grown-by-spec : {M : Type 1} (t : ℕ) → grown-by-lts.Closed (grown-by-calls t) (grown-by-at t) grown-by.Post M
+grown-by-spec t =
+    grown-by-lts.spec (grown-by-calls t) (grown-by-at t) grown-by.Post grown-by-Inv-loop grown-by-μ-loop
+    (grown-by-loop-holds t)
+    (λ c κs. search needs)
+    (λ c κs. search needs)
+    (λ c. search needs)
+    (λ c. search needs)
+    (λ c. search needs)
+    (λ c. search needs)
+    (λ c κs. search needs)
+    (grown-by-with-requires t)
+    (grown-by-keeps-requires t)
+    (grown-by-loop-less t)
+    (grown-by-loop-again t)
+    (grown-by-loop-less-2 t)
+    (grown-by-loop-again-2 t)
+
 -- ---- probe
+
+abbrev probe-calls : ℕ → probe-lts.Claims
+probe-calls t =
+    (start-reads.Asked, start-reads.Learnt, search-reads.Asked, search-reads.Learnt, keeps-below t, keeps.Post, take-reads.Asked, take-reads.Learnt, skip-reads.Asked, skip-reads.Learnt)
 
 abbrev probe-Inv-loop : probe-lts.InvT-loop
 probe-Inv-loop entries q all depth level work₀ at₀ work at =
@@ -1853,7 +1847,7 @@ probe-loop-holds : (t : ℕ) → probe-lts.Need-loop-holds (probe-calls t) (prob
 probe-loop-holds t c =
     let start = (c .before .before .before) in
     let asked = start .pre .1 in (
-      c .start .ensures _ _ (record { few = asked .promising .few; below = asked .promising .below }) (asked .all-asking) (omega (arith, asked .room .stack, length-take-le (start .args .level) (start .args .work .now) (room-level (asked .room)))),
+      c .start .ensures _ _ (small-of (asked .promising)) (asked .all-asking) (omega (arith, asked .room .stack, length-take-le (start .args .level) (start .args .work .now) (room-level (asked .room)))),
       refl,
       asked .memory,
     )
@@ -1864,9 +1858,6 @@ probe-slice-relend-prefix-search t c = room-level (room-kept (c .loop .inv .1) (
 
 probe-slice-aggregate-search : (t : ℕ) → probe-lts.Need-slice-aggregate-search (probe-calls t) (probe-at t) probe.Post probe-Inv-loop probe-μ-loop
 probe-slice-aggregate-search t c = sym (length-take-le (c .before .before .before .before .before .args .level) (c .before .loop .work) (probe-slice-relend-prefix-search t (c .before)))
-
-probe-search-requires : (t : ℕ) → probe-lts.Need-search-requires (probe-calls t) (probe-at t) probe.Post probe-Inv-loop probe-μ-loop
-probe-search-requires t c κs = c .before .loop .inv .0
 
 -- as many have come back
 searched-level : (t : ℕ) (c : probe-lts.After-search (probe-calls t) (probe-at t) probe.Post probe-Inv-loop probe-μ-loop) → length (c .search .last .1 .1 .1 .0) ≡ c .before .before .before .before .before .before .args .level
@@ -1975,7 +1966,36 @@ probe-loop-less-2 t c = omega (arith, behind-skip t c .less, keeps-to-do t (c .b
 probe-loop-again-2 : (t : ℕ) → probe-lts.Need-loop-again-2 (probe-calls t) (probe-at t) probe.Post probe-Inv-loop probe-μ-loop
 probe-loop-again-2 t c = (behind-skip t c .at, c .before .before .before .before .keeps .kept .1 .1 .1 .1 .1 .0 ∙ length-front (c .before .before .before .before .before .before .before .before .before .before .before .before .before .before .loop .work) (c .before .before .before .before .before .before .before .before .before .before .before .before .search .last .1 .1 .1 .0) (c .before .before .before .before .before .before .before .before .before .before .before .before .before .before .before .before .before .before .args .level) (c .before .before .before .before .before .before .before .before .before .before .before .before .search .kept .1 .1 .1 .0) ∙ c .before .before .before .before .before .before .before .before .before .before .before .before .before .before .loop .inv .1, c .before .before .before .before .keeps .ensures .memory)
 
+probe-spec : {M : Type 1} (t : ℕ) → probe-lts.Closed (probe-calls t) (probe-at t) probe.Post M
+probe-spec t =
+    probe-lts.spec (probe-calls t) (probe-at t) probe.Post probe-Inv-loop probe-μ-loop
+    (λ c κs. search needs)
+    (probe-loop-holds t)
+    (probe-slice-relend-prefix-search t)
+    (probe-slice-aggregate-search t)
+    (λ c κs. search needs)
+    (λ c. search needs)
+    (probe-same-length t)
+    (probe-returns t)
+    (λ c. search needs)
+    (probe-same-length-2 t)
+    (probe-returns-2 t)
+    (λ c. search needs)
+    (probe-keeps-requires t)
+    (probe-slice-relend-prefix-take t)
+    (probe-slice-aggregate-take t)
+    (probe-take-requires t)
+    (probe-loop-less t)
+    (probe-loop-again t)
+    (probe-skip-requires t)
+    (probe-loop-less-2 t)
+    (probe-loop-again-2 t)
+
 -- ---- largest
+
+abbrev largest-calls : ℕ → largest-lts.Claims
+largest-calls t =
+    (union-reads.Asked, union-reads.Learnt, has-need-reads.Asked, has-need-reads.Learnt, known-reads.Asked, known-reads.Learnt, keeps-below t, keeps.Post, also-reads.Asked, also-reads.Learnt, core-of-below t, core-of.Post, highest-reads.Asked, highest-reads.Learnt, without-reads.Asked, without-reads.Learnt, largest-below t, largest.Post, with-reads.Asked, with-reads.Learnt)
 
 abbrev largest-Inv-loop : largest-lts.InvT-loop
 largest-Inv-loop entries q k depth level work₀ core₀ had₀ left₀ listed₀ work core had left listed =
@@ -1994,12 +2014,6 @@ largest-returns t c =
     listing-same P (member (a .low)) high (a .depth) (a .level) (asked .lists) (asked .memory)
     (reaches-none P (c .before .before .union .result) (member (a .low)) high (listOf (length (a .entries .now)) (a .level) (a .work .now) (a .k)) (c .before .before .union .ensures) (c .before .has-need .ensures (not-true (c .before .has-need .result) (c .if1 .taken))))
 
-largest-known-requires : (t : ℕ) → largest-lts.Need-known-requires (largest-calls t) (largest-at t) largest.Post largest-Inv-loop largest-μ-loop
-largest-known-requires t c κs =
-    let a = c .before .before .before .before .before .before .args in
-    let asked = c .before .before .before .before .before .before .pre .1 in
-    room-placed (problemOf (a .entries .now) (a .q)) (asked .promising .few) (asked .room) (asked .lists .some)
-
 largest-returns-2 : (t : ℕ) → largest-lts.Need-returns-2 (largest-calls t) (largest-at t) largest.Post largest-Inv-loop largest-μ-loop
 largest-returns-2 t c =
     let start = (c .before .before .before .before .before .before .before .before) in
@@ -2015,12 +2029,6 @@ largest-keeps-requires t c κs =
     let start = (c .before .before .before .before .before .before .before .before .before) in
     let asked = start .pre .1 in
     (omega (arith, start .pre .0), record { promising = rw (c .before .before .before .before .before .before .union .ensures) (asked .promising); deep = asked .deep; room = asked .room; memory = asked .memory })
-
-largest-also-requires : (t : ℕ) → largest-lts.Need-also-requires (largest-calls t) (largest-at t) largest.Post largest-Inv-loop largest-μ-loop
-largest-also-requires t c κs =
-    let a = c .before .before .before .before .before .before .before .before .before .before .before .before .before .before .args in
-    let asked = c .before .before .before .before .before .before .before .before .before .before .before .before .before .before .pre .1 in
-    room-placed (problemOf (a .entries .now) (a .q)) (asked .promising .few) (room-kept (c .before .before .before .before .keeps .kept .1 .1 .1 .1 .1 .0) (asked .room)) (asked .lists .some)
 
 largest-same-length-2 : (t : ℕ) → largest-lts.Need-same-length-2 (largest-calls t) (largest-at t) largest.Post largest-Inv-loop largest-μ-loop
 largest-same-length-2 t c = c .before .before .also .kept .1 .1 .1 .1 .0 ∙ c .before .before .before .before .before .before .before .keeps .kept .1 .1 .1 .1 .1 .0
@@ -2122,7 +2130,42 @@ largest-loop-again t c =
     rw (c .without2 .ensures, c .before .with .ensures, c .before .before .before .before .before .before .before .before .before .without .ensures)
     (branching-next (c .before .before .before .before .before .before .before .before .before .before .before .before .before .before .loop .inv) _ (picked t (c .before .before .before .before .before .before .before .before .before .before .before)) (rw (c .before .before .before .more .given .1, c .before .before .before .before .before .before .before .before .before .without .ensures) at (c .before .before .before .before .before .before .before .largest .ensures)) (c .before .before .before .before .before .before .before .largest .kept .1 .1 .1 .1 .1 .1 .1 .0))
 
+largest-spec : {M : Type 1} (t : ℕ) → largest-lts.Closed (largest-calls t) (largest-at t) largest.Post M
+largest-spec t =
+    largest-lts.spec (largest-calls t) (largest-at t) largest.Post largest-Inv-loop largest-μ-loop
+    (λ c κs. search needs)
+    (λ c κs. search needs)
+    (largest-returns t)
+    (λ c κs. search (needs, room-placed))
+    (λ c. search needs)
+    (largest-returns-2 t)
+    (largest-keeps-requires t)
+    (λ c κs. search (needs, room-placed, room-kept))
+    (largest-same-length-2 t)
+    (largest-returns-3 t)
+    (largest-core-of-requires t)
+    (largest-loop-holds t)
+    (λ c κs. search needs)
+    (λ c. search needs)
+    (λ c. search needs)
+    (largest-same-length-3 t)
+    (largest-returns-4 t)
+    (λ c κs. search needs)
+    (largest-largest-requires t)
+    (λ c. search needs)
+    (λ c. search needs)
+    (largest-same-length-4 t)
+    (largest-returns-5 t)
+    (largest-with-requires t)
+    (λ c κs. search needs)
+    (largest-loop-less t)
+    (largest-loop-again t)
+
 -- ---- core_of
+
+abbrev core-of-calls : ℕ → core-of-lts.Claims
+core-of-calls t =
+    (highest-reads.Asked, highest-reads.Learnt, without-reads.Asked, without-reads.Learnt, union-reads.Asked, union-reads.Learnt, keeps-below t, keeps.Post)
 
 abbrev core-of-Inv-loop : core-of-lts.InvT-loop
 core-of-Inv-loop entries q low depth level work₀ core₀ rest₀ work core rest =
@@ -2130,15 +2173,6 @@ core-of-Inv-loop entries q low depth level work₀ core₀ rest₀ work core res
 
 abbrev core-of-μ-loop : core-of-lts.MeasureT-loop
 core-of-μ-loop entries q low depth level work₀ core₀ rest₀ work core rest = count (member rest) 64
-
-core-of-loop-holds : (t : ℕ) → core-of-lts.Need-loop-holds (core-of-calls t) (core-of-at t) core-of.Post core-of-Inv-loop core-of-μ-loop
-core-of-loop-holds t c = (λ i h. h, λ i h. h, c .before .before .pre .1 .unkept, refl, refl, c .before .before .pre .1 .memory)
-
-core-of-same-length : (t : ℕ) → core-of-lts.Need-same-length (core-of-calls t) (core-of-at t) core-of.Post core-of-Inv-loop core-of-μ-loop
-core-of-same-length t c = c .before .before .before .loop .inv .3
-
-core-of-returns : (t : ℕ) → core-of-lts.Need-returns (core-of-calls t) (core-of-at t) core-of.Post core-of-Inv-loop core-of-μ-loop
-core-of-returns t c = record { within = c .before .before .before .loop .inv .0; unkept = c .before .before .before .loop .inv .2; same = c .before .before .before .loop .inv .4; memory = c .before .before .before .loop .inv .5 }
 
 -- the member that is tried to be left out
 tried : (t : ℕ) (c : core-of-lts.After-i (core-of-calls t) (core-of-at t) core-of.Post core-of-Inv-loop core-of-μ-loop) → member (c .before .before .before .loop .rest) (c .i .given .0 .0) ≡ true
@@ -2196,7 +2230,29 @@ core-of-loop-again-2 t c =
       c .before .before .before .keeps .ensures .memory,
     )
 
+core-of-spec : {M : Type 1} (t : ℕ) → core-of-lts.Closed (core-of-calls t) (core-of-at t) core-of.Post M
+core-of-spec t =
+    core-of-lts.spec (core-of-calls t) (core-of-at t) core-of.Post core-of-Inv-loop core-of-μ-loop
+    (λ c. search needs)
+    (λ c κs. search needs)
+    (λ c. search needs)
+    (λ c. search needs)
+    (λ c. search needs)
+    (λ c. search needs)
+    (λ c κs. search needs)
+    (λ c κs. search needs)
+    (λ c κs. search needs)
+    (core-of-keeps-requires t)
+    (core-of-loop-less t)
+    (core-of-loop-again t)
+    (core-of-loop-less-2 t)
+    (core-of-loop-again-2 t)
+
 -- ---- opposed
+
+abbrev opposed-calls : ℕ → opposed-lts.Claims
+opposed-calls t =
+    (closed-reads.Asked, closed-reads.Learnt, intersection-reads.Asked, intersection-reads.Learnt, highest-reads.Asked, highest-reads.Learnt, without-reads.Asked, without-reads.Learnt, exceeds-reads.Asked, exceeds-reads.Learnt, pair-reads.Asked, pair-reads.Learnt, union-reads.Asked, union-reads.Learnt, keeps-below t, keeps.Post, narrowed-reads.Asked, narrowed-reads.Learnt, learn-refuted-reads.Asked, learn-refuted-reads.Learnt)
 
 abbrev opposed-Inv-loop : opposed-lts.InvT-loop
 opposed-Inv-loop entries q all depth level work₀ base needs₀ limits₀ work needs limits =
@@ -2204,12 +2260,6 @@ opposed-Inv-loop entries q all depth level work₀ base needs₀ limits₀ work 
 
 abbrev opposed-μ-loop : opposed-lts.MeasureT-loop
 opposed-μ-loop entries q all depth level work₀ base needs₀ limits₀ work needs limits = count (member needs) (length entries) * 65 + count (member limits) (length entries)
-
-opposed-loop-holds : (t : ℕ) → opposed-lts.Need-loop-holds (opposed-calls t) (opposed-at t) opposed.Post opposed-Inv-loop opposed-μ-loop
-opposed-loop-holds t c = (λ i h. h, λ i h. h, refl, refl, c .before .before .before .before .pre .1 .memory)
-
-opposed-same-length : (t : ℕ) → opposed-lts.Need-same-length (opposed-calls t) (opposed-at t) opposed.Post opposed-Inv-loop opposed-μ-loop
-opposed-same-length t c = c .before .before .before .loop .inv .2
 
 opposed-returns : (t : ℕ) → opposed-lts.Need-returns (opposed-calls t) (opposed-at t) opposed.Post opposed-Inv-loop opposed-μ-loop
 opposed-returns t c = record { answers = λ e. absurd (false≢true e); same = c .before .before .before .loop .inv .3; memory = c .before .before .before .loop .inv .4 }
@@ -2306,16 +2356,42 @@ opposed-learn-refuted-requires t c κs =
       memory = c .before .before .before .before .before .keeps .ensures .memory;
     }
 
-opposed-closed-requires : (t : ℕ) → opposed-lts.Need-closed-requires (opposed-calls t) (opposed-at t) opposed.Post opposed-Inv-loop opposed-μ-loop
-opposed-closed-requires t c κs = record { few = c .before .before .pre .1 .promising .few; below = c .before .before .pre .1 .promising .below }
+opposed-spec : {M : Type 1} (t : ℕ) → opposed-lts.Closed (opposed-calls t) (opposed-at t) opposed.Post M
+opposed-spec t =
+    opposed-lts.spec (opposed-calls t) (opposed-at t) opposed.Post opposed-Inv-loop opposed-μ-loop
+    (λ c κs. search needs)
+    (λ c κs. search needs)
+    (λ c. search needs)
+    (λ c κs. search needs)
+    (λ c. search needs)
+    (λ c. search needs)
+    (λ c. search needs)
+    (opposed-returns t)
+    (λ c κs. search needs)
+    (λ c. search needs)
+    (λ c κs. search needs)
+    (opposed-exceeds-requires t)
+    (opposed-pair-requires t)
+    (λ c κs. search needs)
+    (opposed-keeps-requires t)
+    (λ c κs. search needs)
+    (opposed-learn-refuted-requires t)
+    (opposed-same-length-2 t)
+    (opposed-returns-2 t)
+    (opposed-loop-less t)
+    (opposed-loop-again t)
+    (opposed-loop-less-2 t)
+    (opposed-loop-again-2 t)
+    (λ c. search needs)
+    (λ c κs. search needs)
+    (opposed-loop-less-3 t)
+    (opposed-loop-again-3 t)
 
 -- ---- keeps
 
-keeps-sub-parts-of : (t : ℕ) → keeps-lts.Need-sub-parts-of (keeps-calls t) (keeps-at t) keeps.Post
-keeps-sub-parts-of t c = omega (arith, c .before .before .pre .1 .deep)
-
-keeps-parts-of-requires : (t : ℕ) → keeps-lts.Need-parts-of-requires (keeps-calls t) (keeps-at t) keeps.Post
-keeps-parts-of-requires t c κs = c .before .before .pre .1 .promising
+abbrev keeps-calls : ℕ → keeps-lts.Claims
+keeps-calls t =
+    (parts-of-reads.Asked, parts-of-reads.Learnt, recall-reads.Asked, recall-reads.Learnt, deeper-below t, deeper.Post, remember-reads.Asked, remember-reads.Learnt)
 
 keeps-add-from : (t : ℕ) → keeps-lts.Need-add-from (keeps-calls t) (keeps-at t) keeps.Post
 keeps-add-from t c = omega (arith, room-depth (c .before .before .before .before .before .pre .1 .room), c .before .before .before .before .before .good .1 .1 .1 .1 .1 .0)
@@ -2335,9 +2411,6 @@ keeps-returns t c =
       memory = asked .memory;
     }
 
-keeps-deeper-requires : (t : ℕ) → keeps-lts.Need-deeper-requires (keeps-calls t) (keeps-at t) keeps.Post
-keeps-deeper-requires t c κs = (omega (arith, c .before .before .before .before .before .before .before .before .before .before .pre .0), c .before .before .before .before .before .before .before .before .before .before .pre .1)
-
 keeps-returns-2 : (t : ℕ) → keeps-lts.Need-returns-2 (keeps-calls t) (keeps-at t) keeps.Post
 keeps-returns-2 t c =
     let start = (c .before .before .before .before .before .before .before .before .before .before .before .before .before .before .before .before .before) in
@@ -2355,10 +2428,28 @@ keeps-returns-2 t c =
           (stored .memory entry (memory-from entry (a .depth) (a .level) mid (kept .memory)) (fit-parts (problemOf (a .entries .now) (a .q)) (a .promises) (start .pre .1 .promising) (parts .0) (parts .1) (c .before .before .before .before .before .before .deeper .result) (kept .answers)));
     }
 
+keeps-spec : {M : Type 1} (t : ℕ) → keeps-lts.Closed (keeps-calls t) (keeps-at t) keeps.Post M
+keeps-spec t =
+    keeps-lts.spec (keeps-calls t) (keeps-at t) keeps.Post
+    (λ c. search needs)
+    (λ c κs. search needs)
+    (keeps-add-from t)
+    (keeps-mul-from t)
+    (λ c κs. search needs)
+    (λ c. search needs)
+    (λ c. search needs)
+    (keeps-returns t)
+    (λ c. search needs)
+    (λ c κs. search needs)
+    (λ c κs. search needs)
+    (λ c. search needs)
+    (keeps-returns-2 t)
+
 -- ---- deeper
 
-deeper-promised-requires : (t : ℕ) → deeper-lts.Need-promised-requires (deeper-calls t) (deeper-at t) deeper.Post
-deeper-promised-requires t c κs = c .before .before .pre .1 .promising
+abbrev deeper-calls : ℕ → deeper-lts.Claims
+deeper-calls t =
+    (promised-reads.Asked, promised-reads.Learnt, world-below t, world.Post)
 
 -- what the promises have come to
 made : (t : ℕ) (c : deeper-lts.After-v (deeper-calls t) (deeper-at t) deeper.Post)
@@ -2386,18 +2477,6 @@ deeper-returns-2 t c =
       memory = start .pre .1 .memory;
     }
 
-deeper-sub-world : (t : ℕ) → deeper-lts.Need-sub-world (deeper-calls t) (deeper-at t) deeper.Post
-deeper-sub-world t c = omega (arith, c .before .before .before .before .before .before .pre .1 .deep)
-
-deeper-mul-world : (t : ℕ) → deeper-lts.Need-mul-world (deeper-calls t) (deeper-at t) deeper.Post
-deeper-mul-world t c = omega (arith, room-level (c .before .before .before .before .before .before .pre .1 .room), c .before .before .before .before .before .before .good .1 .1 .1 .1 .1 .0)
-
-deeper-sub-world-2 : (t : ℕ) → deeper-lts.Need-sub-world-2 (deeper-calls t) (deeper-at t) deeper.Post
-deeper-sub-world-2 t c = omega (arith, room-level (c .before .before .before .before .before .before .pre .1 .room))
-
-deeper-part-world-start : (t : ℕ) → deeper-lts.Need-part-world-start (deeper-calls t) (deeper-at t) deeper.Post
-deeper-part-world-start t c = room-level (c .before .before .before .before .before .before .pre .1 .room)
-
 deeper-world-requires : (t : ℕ) → deeper-lts.Need-world-requires (deeper-calls t) (deeper-at t) deeper.Post
 deeper-world-requires t c κs =
     let start = c .before .before .before .before .before .before .before in
@@ -2411,6 +2490,25 @@ deeper-world-requires t c κs =
         memory = memory-below (wideAt (a .entries .now)) (a .work .now) (a .depth) (a .level) (asked .deep) (room-level (asked .room)) (asked .memory);
       },
     )
+
+deeper-spec : {M : Type 1} (t : ℕ) → deeper-lts.Closed (deeper-calls t) (deeper-at t) deeper.Post M
+deeper-spec t =
+    deeper-lts.spec (deeper-calls t) (deeper-at t) deeper.Post
+    (λ c. search needs)
+    (λ c κs. search needs)
+    (λ c. search needs)
+    (λ c. search needs)
+    (λ c. search (needs, room-level))
+    (λ c. search (needs, room-level))
+    (λ c. search (needs, room-level))
+    (λ c. search needs)
+    (deeper-world-requires t)
+    (λ c. search needs)
+    (λ c. search needs)
+    (deeper-returns t)
+    (deeper-returns-2 t)
+
+-- ---- all together
 
 pub +all-met+anew+by-all+by-few+by-list+by-more+column+columns+core-of+deeper+extend+greedy+grown+grown-by+keeps+largest+leaf+lists+one-met+opposed+probe+refute+seed+solve+world-spec :
     {M : Type 1} → statement M
@@ -2441,430 +2539,28 @@ pub +all-met+anew+by-all+by-few+by-list+by-more+column+columns+core-of+deeper+ex
     μ-seed
     μ-solve
     μ-world
-    (λ t. all-met-lts.spec (all-met-calls t) (all-met-at t) all-met.Post all-met-Inv-loop all-met-μ-loop
-    (all-met-counted-requires t)
-    (all-met-loop-holds t)
-    (λ c κs. search needs)
-    (λ c. search needs)
-    (λ c. search needs)
-    (all-met-same-length t)
-    (all-met-returns t)
-    (λ c κs. search needs)
-    (all-met-asking-requires t)
-    (all-met-one-met-requires t)
-    (all-met-same-length-2 t)
-    (all-met-returns-2 t)
-    (λ c κs. search needs)
-    (all-met-loop-less t)
-    (all-met-loop-again t))
-    (λ t. anew-lts.spec (anew-calls t) (anew-at t) anew.Post anew-Inv-loop anew-μ-loop
-    (anew-loop-holds t)
-    (λ c κs. search needs)
-    (λ c. search needs)
-    (λ c. search needs)
-    (anew-same-length t)
-    (anew-returns t)
-    (λ c κs. search needs)
-    (anew-greedy-requires t)
-    (anew-same-length-2 t)
-    (anew-returns-2 t)
-    (anew-loop-less t)
-    (anew-loop-again t))
-    (λ t. by-all-lts.spec (by-all-calls t) (by-all-at t) by-all.Post
-    (by-all-by-list-requires t)
-    (λ c. search needs)
-    (λ c κs. search needs)
-    (λ c κs. search needs)
-    (by-all-refute-requires t)
-    (λ c. search needs)
-    (λ c. search needs)
-    (by-all-same-length t)
-    (by-all-returns t)
-    (by-all-same-length-2 t)
-    (by-all-returns-2 t)
-    (by-all-same-length-3 t)
-    (by-all-returns-3 t)
-    (by-all-same-length-4 t)
-    (by-all-returns-4 t))
-    (λ t. by-few-lts.spec (by-few-calls t) (by-few-at t) by-few.Post
-    (by-few-columns-requires t)
-    (λ c. search needs)
-    (by-few-selected-requires t)
-    (by-few-same-length t)
-    (by-few-returns t)
-    (by-few-by-more-requires t)
-    (λ c. search needs)
-    (by-few-refute-requires t)
-    (by-few-same-length-2 t)
-    (by-few-returns-2 t)
-    (λ c. search needs)
-    (by-few-same-length-3 t)
-    (by-few-returns-3 t)
-    (by-few-same-length-4 t)
-    (by-few-returns-4 t)
-    (by-few-same-length-5 t)
-    (by-few-returns-5 t))
-    (λ t. by-list-lts.spec (by-list-calls t) (by-list-at t) by-list.Post
-    (by-list-closed-requires t)
-    (λ c κs. search needs)
-    (λ c κs. search needs)
-    (by-list-largest-requires t)
-    (λ c. search needs)
-    (by-list-selected-requires t)
-    (by-list-same-length t)
-    (by-list-returns t)
-    (by-list-blamed-behind-requires t)
-    (λ c. search needs)
-    (by-list-selected-requires-2 t)
-    (by-list-same-length-2 t)
-    (by-list-returns-2 t)
-    (by-list-same-length-3 t)
-    (by-list-returns-3 t)
-    (by-list-same-length-4 t)
-    (by-list-returns-4 t))
-    (λ t. by-more-lts.spec (by-more-calls t) (by-more-at t) by-more.Post
-    (by-more-columns-requires t)
-    (λ c. search needs)
-    (by-more-same-length t)
-    (by-more-returns t)
-    (by-more-extend-requires t)
-    (by-more-selected-requires t)
-    (by-more-same-length-2 t)
-    (by-more-returns-2 t)
-    (by-more-anew-requires t)
-    (by-more-same-length-3 t)
-    (by-more-returns-3 t)
-    (by-more-same-length-4 t)
-    (by-more-returns-4 t))
-    (λ t. column-lts.spec (column-calls t) (column-at t) column.Post column-Inv-loop column-μ-loop
-    (column-closed-requires t)
-    (λ c κs. search needs)
-    (λ c κs. search needs)
-    (column-grown-requires t)
-    (column-grown-by-requires t)
-    (λ c κs. search needs)
-    (λ c κs. search needs)
-    (column-loop-holds t)
-    (λ c κs. search needs)
-    (column-same-length t)
-    (column-returns t)
-    (λ c κs. search needs)
-    (λ c. search needs)
-    (λ c. search needs)
-    (column-same-length-2 t)
-    (column-returns-2 t)
-    (λ c κs. search needs)
-    (λ c κs. search needs)
-    (column-grown-requires-2 t)
-    (column-grown-by-requires-2 t)
-    (column-loop-less t)
-    (column-loop-again t))
-    (λ t. columns-lts.spec (columns-calls t) (columns-at t) columns.Post columns-Inv-loop columns-μ-loop
-    (columns-loop-holds t)
-    (columns-weighs-requires t)
-    (columns-same-length t)
-    (columns-returns t)
-    (columns-prices-behind-requires t)
-    (columns-column-requires t)
-    (λ c κs. search needs)
-    (λ c κs. search needs)
-    (columns-blamed-requires t)
-    (columns-same-length-2 t)
-    (columns-returns-2 t)
-    (columns-also-requires t)
-    (λ c. search needs)
-    (columns-loop-less t)
-    (columns-loop-again t)
-    (λ c. search needs)
-    (columns-same-length-3 t)
-    (columns-returns-3 t))
-    (λ t. core-of-lts.spec (core-of-calls t) (core-of-at t) core-of.Post core-of-Inv-loop core-of-μ-loop
-    (core-of-loop-holds t)
-    (λ c κs. search needs)
-    (λ c. search needs)
-    (λ c. search needs)
-    (core-of-same-length t)
-    (core-of-returns t)
-    (λ c κs. search needs)
-    (λ c κs. search needs)
-    (λ c κs. search needs)
-    (core-of-keeps-requires t)
-    (core-of-loop-less t)
-    (core-of-loop-again t)
-    (core-of-loop-less-2 t)
-    (core-of-loop-again-2 t))
-    (λ t. deeper-lts.spec (deeper-calls t) (deeper-at t) deeper.Post
-    (λ c. search needs)
-    (deeper-promised-requires t)
-    (λ c. search needs)
-    (deeper-sub-world t)
-    (deeper-mul-world t)
-    (deeper-sub-world-2 t)
-    (deeper-part-world-start t)
-    (λ c. search needs)
-    (deeper-world-requires t)
-    (λ c. search needs)
-    (λ c. search needs)
-    (deeper-returns t)
-    (deeper-returns-2 t))
-    (λ t. extend-lts.spec (extend-calls t) (extend-at t) extend.Post extend-Inv-loop extend-μ-loop
-    (extend-loop-holds t)
-    (λ c κs. search needs)
-    (λ c. search needs)
-    (λ c. search needs)
-    (extend-same-length t)
-    (extend-returns t)
-    (λ c κs. search needs)
-    (λ c κs. search needs)
-    (extend-seed-requires t)
-    (extend-also-new-requires t)
-    (extend-loop-less t)
-    (extend-loop-again t))
-    (λ t. greedy-lts.spec (greedy-calls t) (greedy-at t) greedy.Post greedy-Inv-loop greedy-μ-loop
-    (greedy-loop-holds t)
-    (greedy-met-requires t)
-    (greedy-same-length t)
-    (greedy-returns t)
-    (greedy-unmet-requires t)
-    (λ c κs. search needs)
-    (greedy-used-up-requires t)
-    (λ c κs. search needs)
-    (λ c κs. search needs)
-    (λ c κs. search needs)
-    (greedy-grown-requires t)
-    (greedy-grown-requires-2 t)
-    (greedy-grown-requires-3 t)
-    (greedy-grown-requires-4 t)
-    (greedy-useful-requires t)
-    (greedy-same-length-2 t)
-    (greedy-returns-2 t)
-    (greedy-put-slot-requires t)
-    (greedy-add-slots t)
-    (greedy-loop-less t)
-    (greedy-loop-again t))
-    (λ t. grown-lts.spec (grown-calls t) (grown-at t) grown.Post
-    (λ c κs. search needs)
-    (grown-grown-by-requires t)
-    (λ c. search needs)
-    (grown-returns t))
-    (λ t. grown-by-lts.spec (grown-by-calls t) (grown-by-at t) grown-by.Post grown-by-Inv-loop grown-by-μ-loop
-    (grown-by-loop-holds t)
-    (λ c κs. search needs)
-    (λ c κs. search needs)
-    (λ c. search needs)
-    (λ c. search needs)
-    (grown-by-same-length t)
-    (grown-by-returns t)
-    (λ c κs. search needs)
-    (grown-by-with-requires t)
-    (grown-by-keeps-requires t)
-    (grown-by-loop-less t)
-    (grown-by-loop-again t)
-    (grown-by-loop-less-2 t)
-    (grown-by-loop-again-2 t))
-    (λ t. keeps-lts.spec (keeps-calls t) (keeps-at t) keeps.Post
-    (keeps-sub-parts-of t)
-    (keeps-parts-of-requires t)
-    (keeps-add-from t)
-    (keeps-mul-from t)
-    (λ c κs. search needs)
-    (λ c. search needs)
-    (λ c. search needs)
-    (keeps-returns t)
-    (λ c. search needs)
-    (keeps-deeper-requires t)
-    (λ c κs. search needs)
-    (λ c. search needs)
-    (keeps-returns-2 t))
-    (λ t. largest-lts.spec (largest-calls t) (largest-at t) largest.Post largest-Inv-loop largest-μ-loop
-    (λ c κs. search needs)
-    (λ c κs. search needs)
-    (largest-returns t)
-    (largest-known-requires t)
-    (λ c. search needs)
-    (largest-returns-2 t)
-    (largest-keeps-requires t)
-    (largest-also-requires t)
-    (largest-same-length-2 t)
-    (largest-returns-3 t)
-    (largest-core-of-requires t)
-    (largest-loop-holds t)
-    (λ c κs. search needs)
-    (λ c. search needs)
-    (λ c. search needs)
-    (largest-same-length-3 t)
-    (largest-returns-4 t)
-    (λ c κs. search needs)
-    (largest-largest-requires t)
-    (λ c. search needs)
-    (λ c. search needs)
-    (largest-same-length-4 t)
-    (largest-returns-5 t)
-    (largest-with-requires t)
-    (λ c κs. search needs)
-    (largest-loop-less t)
-    (largest-loop-again t))
-    (λ t. leaf-lts.spec (leaf-calls t) (leaf-at t) leaf.Post
-    (leaf-all-met-requires t)
-    (λ c. search needs)
-    (leaf-returns t)
-    (leaf-learn-world-requires t)
-    (λ c. search needs)
-    (leaf-returns-2 t))
-    (λ t. lists-lts.spec (lists-calls t) (lists-at t) lists.Post
-    (λ c κs. search needs)
-    (lists-by-all-requires t)
-    (λ c. search needs)
-    (λ c. search needs)
-    (λ c. search needs)
-    (lists-by-few-requires t)
-    (lists-by-few-requires-2 t)
-    (λ c. search needs)
-    (λ c. search needs)
-    (λ c. search needs)
-    (lists-by-all-requires-2 t)
-    (lists-same-length t)
-    (lists-returns t)
-    (lists-same-length-2 t)
-    (lists-returns-2 t)
-    (lists-same-length-3 t)
-    (lists-returns-3 t)
-    (lists-same-length-4 t)
-    (lists-returns-4 t)
-    (lists-same-length-5 t)
-    (lists-returns-5 t)
-    (lists-same-length-6 t)
-    (lists-returns-6 t))
-    (λ t. one-met-lts.spec (one-met-calls t) (one-met-at t) one-met.Post
-    (λ c κs. search needs)
-    (one-met-add-from t)
-    (one-met-mul-from t)
-    (λ c κs. search needs)
-    (λ c. search needs)
-    (λ c. search needs)
-    (one-met-returns t)
-    (λ c. search needs)
-    (one-met-solve-requires t)
-    (λ c κs. search needs)
-    (λ c. search needs)
-    (one-met-returns-2 t))
-    (λ t. opposed-lts.spec (opposed-calls t) (opposed-at t) opposed.Post opposed-Inv-loop opposed-μ-loop
-    (opposed-closed-requires t)
-    (λ c κs. search needs)
-    (opposed-loop-holds t)
-    (λ c κs. search needs)
-    (λ c. search needs)
-    (λ c. search needs)
-    (opposed-same-length t)
-    (opposed-returns t)
-    (λ c κs. search needs)
-    (λ c. search needs)
-    (λ c κs. search needs)
-    (opposed-exceeds-requires t)
-    (opposed-pair-requires t)
-    (λ c κs. search needs)
-    (opposed-keeps-requires t)
-    (λ c κs. search needs)
-    (opposed-learn-refuted-requires t)
-    (opposed-same-length-2 t)
-    (opposed-returns-2 t)
-    (opposed-loop-less t)
-    (opposed-loop-again t)
-    (opposed-loop-less-2 t)
-    (opposed-loop-again-2 t)
-    (λ c. search needs)
-    (λ c κs. search needs)
-    (opposed-loop-less-3 t)
-    (opposed-loop-again-3 t))
-    (λ t. probe-lts.spec (probe-calls t) (probe-at t) probe.Post probe-Inv-loop probe-μ-loop
-    (λ c κs. search needs)
-    (probe-loop-holds t)
-    (probe-slice-relend-prefix-search t)
-    (probe-slice-aggregate-search t)
-    (probe-search-requires t)
-    (λ c. search needs)
-    (probe-same-length t)
-    (probe-returns t)
-    (λ c. search needs)
-    (probe-same-length-2 t)
-    (probe-returns-2 t)
-    (λ c. search needs)
-    (probe-keeps-requires t)
-    (probe-slice-relend-prefix-take t)
-    (probe-slice-aggregate-take t)
-    (probe-take-requires t)
-    (probe-loop-less t)
-    (probe-loop-again t)
-    (probe-skip-requires t)
-    (probe-loop-less-2 t)
-    (probe-loop-again-2 t))
-    (λ t. refute-lts.spec (refute-calls t) (refute-at t) refute.Post
-    (λ c κs. search needs)
-    (refute-asking-requires t)
-    (refute-by-list-requires t)
-    (λ c. search needs)
-    (refute-learn-refuted-requires t)
-    (refute-same-length t)
-    (refute-returns t)
-    (refute-same-length-2 t)
-    (refute-returns-2 t))
-    (λ t. seed-lts.spec (seed-calls t) (seed-at t) seed.Post
-    (seed-closed-requires t)
-    (λ c κs. search needs)
-    (λ c κs. search needs)
-    (seed-grown-requires t)
-    (seed-grown-requires-2 t)
-    (seed-grown-requires-3 t)
-    (seed-grown-requires-4 t)
-    (seed-same-length t)
-    (seed-returns t))
-    (λ t. solve-lts.spec (solve-calls t) (solve-at t) solve.Post
-    (solve-keeps-requires t)
-    (solve-same-length t)
-    (solve-returns t)
-    (solve-opposed-requires t)
-    (solve-same-length-2 t)
-    (solve-returns-2 t)
-    (solve-greedy-requires t)
-    (solve-same-length-3 t)
-    (solve-returns-3 t)
-    (solve-lists-requires t)
-    (λ c. search needs)
-    (λ c. search needs)
-    (λ c. search needs)
-    (solve-probe-requires t)
-    (solve-same-length-4 t)
-    (solve-returns-4 t)
-    (solve-same-length-5 t)
-    (solve-returns-5 t)
-    (solve-same-length-6 t)
-    (solve-returns-6 t))
-    (λ t. world-lts.spec (world-calls t) (world-at t) world.Post world-Inv-loop world-μ-loop
-    (world-loop-holds t)
-    (world-force-requires t)
-    (λ c. search needs)
-    (λ c. search needs)
-    (world-same-length t)
-    (world-returns t)
-    (λ c κs. search needs)
-    (λ c. search needs)
-    (λ c. search needs)
-    (world-leaf-requires t)
-    (world-same-length-2 t)
-    (world-returns-2 t)
-    (world-all-met-requires t)
-    (world-same-length-3 t)
-    (world-returns-3 t)
-    (world-branch-requires t)
-    (λ c. search needs)
-    (world-world-requires t)
-    (world-same-length-4 t)
-    (world-returns-4 t)
-    (λ c. search needs)
-    (world-branch-requires-2 t)
-    (λ c. search needs)
-    (λ c. search needs)
-    (world-same-length-5 t)
-    (world-returns-5 t)
-    (world-loop-less t)
-    (world-loop-again t))
+    all-met-spec
+    anew-spec
+    by-all-spec
+    by-few-spec
+    by-list-spec
+    by-more-spec
+    column-spec
+    columns-spec
+    core-of-spec
+    deeper-spec
+    extend-spec
+    greedy-spec
+    grown-spec
+    grown-by-spec
+    keeps-spec
+    largest-spec
+    leaf-spec
+    lists-spec
+    one-met-spec
+    opposed-spec
+    probe-spec
+    refute-spec
+    seed-spec
+    solve-spec
+    world-spec
