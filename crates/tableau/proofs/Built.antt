@@ -1,4 +1,5 @@
--- Settled sets with nothing pending, and a solution for each relation that a need or limit speaks of, give a world that is as wanted.
+-- Settled sets with nothing pending, and a solution for each relation that a need or limit speaks of, give a world that is as wanted
+-- (known as soundness of the answer yes).
 -- Why: a root over the solutions' items, with the facts that are wanted true, is as wanted of all that no rule settles, and so by closure of the rest.
 use mathlib.Core.Path.{_≡_, refl, sym, _∙_}
 use mathlib.Core.Bool.{Bool, true, false, _&&_, _||_, not-eq-not, true≢false}

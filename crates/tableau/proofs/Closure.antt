@@ -1,4 +1,5 @@
--- Where every rule has been applied, a world is as wanted if it is so of the facts, of the counting entries and of what is pending.
+-- Where every rule has been applied, a world is as wanted if it is so of the facts, of the counting entries and of what is pending
+-- (the induction in what is known as Hintikka's lemma).
 -- Why: the truth of any other entry follows from that of its parts, which are wanted by its rule and have smaller numbers.
 use mathlib.Core.Path.{_≡_, refl, sym, ap, _∙_}
 use mathlib.Core.Logic.{⊎-elim, ⊎-map}

@@ -11,13 +11,13 @@ pub mod Closure
 pub mod Bounds
 -- a successor's promises as what is wanted there
 pub mod Promises
--- from a world to a solution for every relation
+-- from a world to a solution for every relation: completeness
 pub mod Solved
 -- finite search
 pub mod Finite
 -- from rows to the items of a root
 pub mod Items
--- from solutions to a world
+-- from solutions to a world: soundness of the answer yes
 pub mod Built
 -- how slots can be extended to a solution
 pub mod Extend

@@ -1,4 +1,5 @@
 -- With fewer needs and limits a problem is easier: a solution of the whole is one of the part, by its promises of the part.
+-- So where a part has none (known as an unsatisfiable core), the whole has none.
 use mathlib.Core.Path.{_≡_, refl}
 use mathlib.Core.Bool.{Bool, true, false, not, _&&_, and-true}
 use mathlib.Core.List.{List, [], _∷_, map}

@@ -1,4 +1,4 @@
--- Where a world is as wanted, there is a solution for every relation.
+-- Where a world is as wanted, there is a solution for every relation (known as completeness: the answer no is given only where there is no world).
 -- Why: each world of its structure makes a row, of one copy if a link leads there and of none otherwise, and with the promises that it happens
 -- to keep. Then those that promise a need, and those that do not promise a limit, are just those where its part is true.
 use mathlib.Core.Path.{_≡_, refl, sym, ap, _∙_}

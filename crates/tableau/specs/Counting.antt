@@ -1,4 +1,5 @@
--- What is wanted of the successors of a world: needs and limits, the promises that a successor keeps, and rows of successors that keep the same.
+-- What is wanted of the successors of a world: needs and limits (known as qualified number restrictions), the promises that a successor keeps, and rows
+-- of successors that keep the same.
 use mathlib.Core.Path.{_≡_}
 use mathlib.Core.Bool.{Bool, true, false, cond, not, _&&_, _||_}
 use mathlib.Core.List.{List, [], _∷_}

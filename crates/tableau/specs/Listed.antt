@@ -1,4 +1,5 @@
--- A list of sets of promises that stands for all: whatever a successor that serves a need may promise, some listed one promises no less.
+-- A list of sets of promises that stands for all: whatever a successor that serves a need may promise, some listed one promises no less
+-- (known as dominance).
 use mathlib.Core.Path.{_≡_}
 use mathlib.Core.Logic.{_⊎_}
 use mathlib.Core.Bool.{true, false}

@@ -26,7 +26,7 @@ module _ (yes no : ℕ → Bool) where
   wanted true = yes
   wanted false = no
 
-  -- What else has to be wanted once entry i, with the fields e, is wanted b: a row a kind.
+  -- What else has to be wanted once entry i, with the fields e, is wanted b: a row a kind (known as the expansion rules of a tableau).
   -- Where one of two parts is enough, the entry may be pending: it is still to be split.
   unfoldable pub rule : (pending : ℕ → Bool) (b : Bool) → Entry → ℕ → Bool
   rule pending b e i =
@@ -65,7 +65,7 @@ module _ (entry : ℕ → Entry) where
     pub inside : world < structure .worlds
     pub meets : Meets structure world yes no
 
-  -- every rule has been applied to the entries wanted, which are below n
+  -- every rule has been applied to the entries wanted, which are below n (known as a saturated branch)
   pub record Settled (n : ℕ) (yes no pending : ℕ → Bool) : Type 0 where
     pub below : (b : Bool) (i : ℕ) → wanted yes no b i ≡ true → i < n
     pub treated : (b : Bool) (i : ℕ) → wanted yes no b i ≡ true → rule yes no pending b (entry i) i ≡ true

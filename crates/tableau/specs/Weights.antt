@@ -1,5 +1,6 @@
 -- Refutation by weights: weights on needs and limits, and a divisor, that no copies of listed sets agree with, behind slots that are taken.
 -- With weight 1 on one need and on one limit it is a pair that excludes each other; greater divisors also see that whole numbers do not fit.
+-- With divisor 1 such weights exist wherever even fractions of copies do not fit (known as Farkas' lemma); that is not needed here.
 use mathlib.Core.Bool.{Bool, true, false, not}
 use mathlib.Core.List.{List}
 use Prim.Native.Nat.{ℕ, zero, suc, _+_, _-_, _*_, _/_, _<_, _≤_}
@@ -37,7 +38,8 @@ pub record Weighing (P : Problem) (a b : ℕ → ℕ) : Type 0 where
   pub needs : (i : ℕ) → 0 < a i → Asks P true i
   pub limits : (i : ℕ) → 0 < b i → Asks P false i
 
--- By the weights, rounded by r, no listed set serves more than it costs, and more is lacking than there is room for.
+-- By the weights, rounded by r, no listed set serves more than it costs, and more is lacking than there is room for (known as a Farkas certificate where
+-- r is 1; to divide by r, and to round up what is served and down what is spent, is known as Chvátal-Gomory rounding).
 pub record Refuted (P : Problem) (slots : List Slot) (list : List ℕ) (a b : ℕ → ℕ) (r : ℕ) : Type 0 where
   pub divisor : 0 < r
   pub weighing : Weighing P a b
