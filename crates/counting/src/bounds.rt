@@ -144,7 +144,7 @@ pub fn unmet(entries: &[u64], q: Question, words: &[u64], k: usize) -> Set
 
 // The limits that leave no room.
 pub fn used_up(entries: &[u64], q: Question, words: &[u64], k: usize) -> Set
-    requires { ⌜ (length (now entries) ≤ 64) × Few (now words) k × Kept (problemOf (now entries) q) (slotsOf (now words) k) ⌝ }
+    requires { ⌜ (length (now entries) ≤ 64) × Few (now words) k ⌝ }
 {
     pressing(entries, q, words, k, false)
 }

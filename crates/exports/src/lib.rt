@@ -21,7 +21,12 @@ pub extern "C" fn hurnavis_check_table(table: &[u8]) -> u32
 
 // The words that a mark of two entries has to be lent; for a decision one entry is given twice.
 #[no_mangle]
-pub extern "C" fn hurnavis_work_words(table: &[u8], model: usize, answer: usize, needed: &mut u64) -> u32
+pub extern "C" fn hurnavis_work_words(
+    table: &[u8],
+    model: usize,
+    answer: usize,
+    needed: &mut u64,
+) -> u32
     ensures { λ r. ⌜ (r ≡ refusal (pairThere (now (table .entry)) model answer))
         × (now (needed .exit) ≡ placed r (pairWork (now (table .entry)) model answer) (now (needed .entry))) ⌝ }
 {
@@ -39,14 +44,19 @@ pub extern "C" fn hurnavis_work_words(table: &[u8], model: usize, answer: usize,
 pub extern "C" fn hurnavis_board(table: &[u8], structure: &[u8], words: &mut [u64]) -> u32
     ensures { λ r. ⌜ (r ≡ refusal (boardVerdict (now (table .entry)) (now (structure .entry)) (length (now (words .entry)))))
         × BoardAfter (now (table .entry)) (now (structure .entry)) (now (words .entry))
-            (boardVerdict (now (table .entry)) (now (structure .entry)) (length (now (words .entry)))) (now (words .exit)) ⌝ }
+        (boardVerdict (now (table .entry)) (now (structure .entry)) (length (now (words .entry)))) (now (words .exit)) ⌝ }
 {
     hurnavis::board(table, structure, words).number() as u32
 }
 
 // 1 if the entry is possible, 0 if it is impossible.
 #[no_mangle]
-pub extern "C" fn hurnavis_decide(table: &[u8], entry: usize, words: &mut [u64], possible: &mut u8) -> u32
+pub extern "C" fn hurnavis_decide(
+    table: &[u8],
+    entry: usize,
+    words: &mut [u64],
+    possible: &mut u8,
+) -> u32
     ensures { λ r. ⌜ DecisionTold (now (table .entry)) entry (now (words .entry)) (now (words .exit))
         (now (possible .entry)) (now (possible .exit)) r ⌝ }
 {
@@ -65,7 +75,13 @@ pub extern "C" fn hurnavis_decide(table: &[u8], entry: usize, words: &mut [u64],
 
 // 0 equal, 1 narrower, 2 wider, 3 crossing.
 #[no_mangle]
-pub extern "C" fn hurnavis_mark(table: &[u8], model: usize, answer: usize, words: &mut [u64], mark: &mut u8) -> u32
+pub extern "C" fn hurnavis_mark(
+    table: &[u8],
+    model: usize,
+    answer: usize,
+    words: &mut [u64],
+    mark: &mut u8,
+) -> u32
     ensures { λ r. ⌜ MarkTold (now (table .entry)) model answer (now (words .entry)) (now (words .exit))
         (now (mark .entry)) (now (mark .exit)) r ⌝ }
 {

@@ -612,9 +612,10 @@ fn probe(
     }
 }
 
-// Lists the largest sets that can be kept (known as maximal consistent sets), of those that have all of `low` and beyond that only
-// members of `free`: behind the k that are listed, and but for sets that have no need or are inside a listed one. Where not all can
-// be kept, the members of a core cannot: a set that can be kept leaves out the highest of them, or has it and leaves out another one.
+// Lists the largest sets that can be kept (known as maximal satisfiable subsets), of those that have all of `low` and beyond that
+// only members of `free`: behind the k that are listed, and but for sets that have no need or are inside a listed one. Where not
+// all can be kept, the members of a core cannot: a set that can be kept leaves out the highest of them, or has it and leaves out
+// another one.
 fn largest(
     entries: &[u64],
     q: Question,

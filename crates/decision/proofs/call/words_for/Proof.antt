@@ -34,9 +34,10 @@ returns-3 c = simp (sym (c .before .before .before .check .ensures) ∙ c .befor
 
 returns-4 : tie.Need-returns-4
 returns-4 c =
-    let asked = c .before .before .before .before .before .before .before .before .args in
-    (simp (fine (c .before .before .before .before), lt-leb _ _ (c .before .before .before .if1 .left), lt-leb _ _ (c .before .before .if2 .left)),
-    c .work-words .ensures ∙ ap (tableWork (asked .table .now)) (c .before .pair-depth .ensures))
+    let asked = c .before .before .before .before .before .before .before .before .args in (
+      simp (fine (c .before .before .before .before), lt-leb _ _ (c .before .before .before .if1 .left), lt-leb _ _ (c .before .before .if2 .left)),
+      c .work-words .ensures ∙ ap (tableWork (asked .table .now)) (c .before .pair-depth .ensures),
+    )
 
 pub words-for-spec : {M : Type 1} → statement M
 words-for-spec =

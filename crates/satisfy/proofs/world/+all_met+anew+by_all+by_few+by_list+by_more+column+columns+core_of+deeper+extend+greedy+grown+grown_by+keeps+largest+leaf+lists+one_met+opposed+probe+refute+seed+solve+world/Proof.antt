@@ -1600,7 +1600,7 @@ greedy-unmet-requires : (t : ℕ) → greedy-lts.Need-unmet-requires (greedy-cal
 greedy-unmet-requires t c κs = (c .before .before .before .before .before .before .before .pre .1 .promising .few, greedy-few t (c .before .before .before .before))
 
 greedy-used-up-requires : (t : ℕ) → greedy-lts.Need-used-up-requires (greedy-calls t) (greedy-at t) greedy.Post greedy-Inv-loop greedy-μ-loop
-greedy-used-up-requires t c κs = (c .before .before .before .before .before .before .before .before .before .before .pre .1 .promising .few, greedy-few t (c .before .before .before .before .before .before .before), c .before .before .before .before .before .before .before .loop .inv .0 .kept)
+greedy-used-up-requires t c κs = (c .before .before .before .before .before .before .before .before .before .before .pre .1 .promising .few, greedy-few t (c .before .before .before .before .before .before .before))
 
 -- all sets that are tried are of needs and limits
 all-asks : (t : ℕ) (c : greedy-lts.At-loop (greedy-calls t) (greedy-at t) greedy.Post greedy-Inv-loop greedy-μ-loop) → Within (member (c .before .before .before .args .all)) (asking (problemOf (c .before .before .before .args .entries .now) (c .before .before .before .args .q)))
