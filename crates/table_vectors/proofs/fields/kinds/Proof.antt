@@ -1,8 +1,8 @@
 -- `kinds` is safe and ends. The measure: the kinds that are left.
 use Prim.Native.Nat.{_-_}
 use borrow.Author.Needs.{needs}
-use Rattle.table_vectors.proofs.kinds.Statement.{statement}
-use Rattle.table_vectors.proofs.kinds.Tie as tie
+use Rattle.table_vectors.proofs.fields.kinds.Statement.{statement}
+use Rattle.table_vectors.proofs.fields.kinds.Tie as tie
 
 abbrev Inv-loop : tie.InvT-loop
 Inv-loop tally₀ kind₀ tally kind = Unit {0}

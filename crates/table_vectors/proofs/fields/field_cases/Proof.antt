@@ -1,7 +1,7 @@
 -- `field_cases` is safe and ends. The measure: the bit, which is halved to 0.
 use borrow.Author.Needs.{needs}
-use Rattle.table_vectors.proofs.field_cases.Statement.{statement}
-use Rattle.table_vectors.proofs.field_cases.Tie as tie
+use Rattle.table_vectors.proofs.fields.field_cases.Statement.{statement}
+use Rattle.table_vectors.proofs.fields.field_cases.Tie as tie
 
 abbrev Inv-loop : tie.InvT-loop
 Inv-loop kind field tally₀ bit₀ tally bit = Unit {0}

@@ -2,8 +2,8 @@
 use mathlib.Core.Path.{sym}
 use lib.Seq.{length-take-le}
 use borrow.Author.Needs.{needs}
-use Rattle.table_vectors.proofs.answer.Statement.{statement}
-use Rattle.table_vectors.proofs.answer.Tie as tie
+use Rattle.table_vectors.proofs.case.answer.Statement.{statement}
+use Rattle.table_vectors.proofs.case.answer.Tie as tie
 
 slice-aggregate-check-table : tie.Need-slice-aggregate-check-table
 slice-aggregate-check-table c =
