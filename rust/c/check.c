@@ -47,7 +47,6 @@ static void unfitting(void)
     EXPECT(hurnavis_check_table(name, sizeof name) == HURNAVIS_KIND);
 }
 
-/* Refusal 5 needs over 64 entries, of which a table has no room. */
 static void refusals_of_tables(void)
 {
     const uint8_t unused[] = {0, 0, 0, 1}, itself[] = {HURNAVIS_NOT(0)};
@@ -57,7 +56,21 @@ static void refusals_of_tables(void)
     EXPECT(hurnavis_check_table(every_kind, 3) == HURNAVIS_TABLE_LENGTH);
     EXPECT(hurnavis_check_table(unused, sizeof unused) == HURNAVIS_UNUSED_FIELD);
     EXPECT(hurnavis_check_table(itself, sizeof itself) == HURNAVIS_REFERENCE);
-    EXPECT(HURNAVIS_DEPTH == 5);
+}
+
+/* 63 counting entries over one fact. W = 8 x (63 + 1) x (2 x 64 + 63 x 2 + 4). */
+static void deepest(void)
+{
+    uint8_t table[256] = {HURNAVIS_FACT(0)};
+    uint64_t needed = 0;
+    size_t i;
+
+    for (i = 1; i < 64; i++) {
+        const uint8_t entry[] = {HURNAVIS_AT_LEAST(1, 7, i - 1)};
+        memcpy(table + 4 * i, entry, sizeof entry);
+    }
+    EXPECT(hurnavis_check_table(table, sizeof table) == 0);
+    EXPECT(hurnavis_work_words(table, sizeof table, 63, 63, &needed) == 0 && needed == 132096);
 }
 
 /* Two worlds, a link of relation 0 from world 1 to world 0. */
@@ -106,6 +119,7 @@ int main(void)
     SAME(greatest, greatest_packed);
     unfitting();
     refusals_of_tables();
+    deepest();
     refusals_of_structures();
     places_of_answers();
     return faults;

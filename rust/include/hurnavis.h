@@ -23,13 +23,12 @@
 extern "C" {
 #endif
 
-/* The refusals. The first fault in order counts: 1; then entry by entry 2, 3, 4; then 5; then 6; then record by record 7, 8;
- * then 9; then 10. A call skips what it does not take. Later calls add refusals. */
+/* The refusals. The first fault in order counts: 1; then entry by entry 2, 3, 4; then 6; then record by record 7, 8; then 9;
+ * then 10. A call skips what it does not take. Later calls add refusals. 5 is unused. */
 #define HURNAVIS_TABLE_LENGTH 1u     /* the table's length is 0, over 256 bytes, or not a multiple of 4 */
 #define HURNAVIS_KIND 2u             /* an entry's kind is over 7 */
 #define HURNAVIS_UNUSED_FIELD 3u     /* a field that the entry's kind does not use is not 0 */
 #define HURNAVIS_REFERENCE 4u        /* an entry refers to itself or to a later one */
-#define HURNAVIS_DEPTH 5u            /* an entry's depth is over 63 */
 #define HURNAVIS_STRUCTURE_LENGTH 6u /* the structure's length is 0, over 3,072 bytes, or not a multiple of 3 */
 #define HURNAVIS_RECORD 7u           /* the first record is no header, a later one is, a kind is 3, or a zero bit is 1 */
 #define HURNAVIS_WORLD 8u            /* a world is not below the number of worlds */
@@ -74,7 +73,7 @@ uint32_t hurnavis_check_table(const uint8_t *table, size_t table_len);
 /* Gives the words to lend for a mark of the two entries, which are enough for a decision on either; for a decision alone, give
  * its entry twice. They are W = 8 x (d + 1) x (2 x n + G + 4), at most 8,325,120: n is the number of entries, d the greater
  * depth of the two (how deep "at least" and "at most" stand in each other), G the sum of (grade + 1) over all entries that are
- * "at least" or "at most". Refuses 1 to 5 and 9. */
+ * "at least" or "at most". Refuses 1 to 4 and 9. */
 uint32_t hurnavis_work_words(const uint8_t *table, size_t table_len, size_t model, size_t answer, uint64_t *words_needed);
 
 /* Writes one word for each entry: bit w is 1 exactly when the entry holds at world w of the structure. Words behind the number
@@ -85,7 +84,7 @@ uint32_t hurnavis_board(const uint8_t *table, size_t table_len, const uint8_t *s
                         uint64_t *words, size_t words_len);
 
 /* Gives 1 if the entry holds at some world of some finite structure, 0 if at none. The words are work space; what stands in
- * them has no influence. After an answer the first W words are 0 and the others as before. Refuses 1 to 5, 9, and 10 for fewer
+ * them has no influence. After an answer the first W words are 0 and the others as before. Refuses 1 to 4, 9, and 10 for fewer
  * than W words. */
 uint32_t hurnavis_decide(const uint8_t *table, size_t table_len, size_t entry, uint64_t *words, size_t words_len,
                          uint8_t *possible);

@@ -241,7 +241,7 @@ pub fn within_structure(before: Tally) -> Tally {
     answers(tally, true_at(7), three.fact(3, 1).cut(3))
 }
 
-// Four entries with the table's fault of this number, none for 0. Fault 5 takes more entries than a table may have.
+// Four entries with the table's fault of this number, none for 0.
 fn table_with(fault: u8) -> Rows {
     let fine = true_at(7).entry(fact(1), 2).entry(at_least(1, 7, 1), 1);
     match fault {

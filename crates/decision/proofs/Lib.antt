@@ -1,5 +1,5 @@
--- what an accepted table's decision may count on, and words cleared one by one
-pub mod Deciding
+-- words cleared one by one
+pub mod Clearing
 -- a call on two entries, and on one
 pub mod Pair
 -- the question that a call asks of the engine

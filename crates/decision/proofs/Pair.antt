@@ -13,9 +13,9 @@ use Rattle.faults.proofs.Each.{both-accepted, not-refused, neither, then-then}
 use Rattle.table.specs.Entry.{entryAt, size}
 use Rattle.table.specs.Formulas.{depthAt}
 use Rattle.table.specs.Check.{tableVerdict}
+use Rattle.table.proofs.Shallow.{accepted-shallow}
 use Rattle.decision.specs.Call.{pairWork, pairThere, pairVerdict}
 use Rattle.decision.specs.Decide.{entryWork, decideVerdict}
-use Rattle.decision.proofs.Deciding.{accepted-shallow}
 
 -- what an accepted call meets
 pub pair-met : (bytes : List ℕ) (a b words : ℕ) → pairVerdict bytes a b words ≡ Accepted

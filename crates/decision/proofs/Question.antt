@@ -19,6 +19,7 @@ use Rattle.table.specs.Formulas.{formulaAt, depthAt}
 use Rattle.table.specs.Space.{weight, gradeSum, tableWork}
 use Rattle.faults.specs.declared.Verdict.the-variants.{Accepted}
 use Rattle.table.specs.Check.{tableVerdict}
+use Rattle.table.proofs.Accepted.{accepted-small}
 use Rattle.semantics.specs.Answer.{Answers}
 use Rattle.tableau.specs.Wants.{truthAt, Sat}
 use Rattle.wide.specs.Wide.{wideAt, Widened}
@@ -26,7 +27,6 @@ use Rattle.wide.proofs.Widening.{wide-weight, wide-formed, wide-stands}
 use Rattle.cases.specs.Levels.{Roomy}
 use Rattle.satisfy.specs.Sets.{SetsAsked}
 use Rattle.decision.specs.Ask.{TableAsked}
-use Rattle.decision.proofs.Deciding.{accepted-small}
 
 grades-ext : (entry entry′ : ℕ → Entry) (n : ℕ) → ((i : ℕ) → i < n → weight (entry i) ≡ weight (entry′ i)) → gradeSum entry n ≡ gradeSum entry′ n
 unfolding gradeSum

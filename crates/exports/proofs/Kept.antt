@@ -2,7 +2,7 @@
 use mathlib.Core.Path.{_≡_, refl}
 use Prim.Native.Nat.{ℕ}
 use Rattle.faults.specs.declared.Fault.{Fault}
-use Rattle.faults.specs.declared.Fault.the-variants.{TableLength, Kind, UnusedField, Reference, Depth, StructureLength, Record, World, EntryNumber, Space}
+use Rattle.faults.specs.declared.Fault.the-variants.{TableLength, Kind, UnusedField, Reference, StructureLength, Record, World, EntryNumber, Space}
 use Rattle.faults.specs.Verdict.{numberOf}
 use Rattle.exports.specs.Status.{placed}
 
@@ -12,7 +12,6 @@ kept-by = elim [
   | Kind ↦ λ a b. refl
   | UnusedField ↦ λ a b. refl
   | Reference ↦ λ a b. refl
-  | Depth ↦ λ a b. refl
   | StructureLength ↦ λ a b. refl
   | Record ↦ λ a b. refl
   | World ↦ λ a b. refl

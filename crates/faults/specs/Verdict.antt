@@ -2,17 +2,16 @@
 use mathlib.Core.Bool.{Bool, true, false}
 use Prim.Native.Nat.{ℕ, zero, suc}
 use Rattle.faults.specs.declared.Fault.{Fault}
-use Rattle.faults.specs.declared.Fault.the-variants.{TableLength, Kind, UnusedField, Reference, Depth, StructureLength, Record, World, EntryNumber, Space}
+use Rattle.faults.specs.declared.Fault.the-variants.{TableLength, Kind, UnusedField, Reference, StructureLength, Record, World, EntryNumber, Space}
 use Rattle.faults.specs.declared.Verdict.{Verdict}
 use Rattle.faults.specs.declared.Verdict.the-variants.{Accepted, Refused}
 
--- document 01's number of each fault
+-- document 01's number of each fault; 5 stays unused (document 02, P4)
 abbrev pub numberOf : Fault → ℕ
 numberOf TableLength = 1
 numberOf Kind = 2
 numberOf UnusedField = 3
 numberOf Reference = 4
-numberOf Depth = 5
 numberOf StructureLength = 6
 numberOf Record = 7
 numberOf World = 8

@@ -3,13 +3,12 @@
 ghost use mathlib.Core.Path.{_≡_};
 ghost use Rattle.faults.specs.Verdict.{numberOf, refusal};
 
-// One case for each number of document 01, in its order.
+// One case for each number of document 01, in its order. 5 is no fault's number: document 02, P4, took it out.
 pub enum Fault {
     TableLength,
     Kind,
     UnusedField,
     Reference,
-    Depth,
     StructureLength,
     Record,
     World,
@@ -33,7 +32,6 @@ impl Fault {
             Fault::Kind => 2,
             Fault::UnusedField => 3,
             Fault::Reference => 4,
-            Fault::Depth => 5,
             Fault::StructureLength => 6,
             Fault::Record => 7,
             Fault::World => 8,

@@ -12,7 +12,7 @@ use decision::call::Needed;
 use faults::Verdict;
 use mark::Marking;
 
-// Whether a table is accepted; if not, its first fault in document 01's order, a number from 1 to 5.
+// Whether a table is accepted; if not, its first fault in document 01's order, a number from 1 to 4.
 pub fn check_table(table: &[u8]) -> Verdict
     ensures { λ r. ⌜ r ≡ tableVerdict (now (table .entry)) ⌝ }
 {
@@ -20,7 +20,7 @@ pub fn check_table(table: &[u8]) -> Verdict
 }
 
 // The words that a mark of two entries has to be lent, document 01's W; for a decision one entry is given twice. Refuses with a
-// number from 1 to 5, or 9 for an entry that is not there.
+// number from 1 to 4, or 9 for an entry that is not there.
 pub fn work_words(table: &[u8], model: usize, answer: usize) -> Needed
     ensures { λ r. ⌜ NeededIs (now (table .entry)) model answer r ⌝ }
 {
@@ -38,7 +38,7 @@ pub fn board(table: &[u8], structure: &[u8], words: &mut [u64]) -> Verdict
 }
 
 // Whether entry e of a table is possible: some world of some finite structure makes it true, whatever its size. Works in the
-// first W words (document 01) and leaves 0 in them; the words behind stay as they were. Refuses with a number from 1 to 5,
+// first W words (document 01) and leaves 0 in them; the words behind stay as they were. Refuses with a number from 1 to 4,
 // 9 for an entry that is not there, or 10 for too few words, and then leaves all words as they were.
 pub fn decide(table: &[u8], e: usize, words: &mut [u64]) -> Decision
     ensures { λ r. ⌜ DecisionIs (now (table .entry)) e (now (words .entry)) (now (words .exit)) r ⌝ }

@@ -1,13 +1,14 @@
--- What an accepted table is known to meet: the kinds are known, and used references are smaller than their entry's number.
+-- What an accepted table is known to meet: it has 64 entries at most, the kinds are known, and used references are smaller
+-- than their entry's number.
 -- So the formula of an entry, and its truth, are those of document 01's table of kinds with the entries that it refers to.
 use mathlib.Core.Path.{_≡_, refl, ap, ap₂, _∙_}
-use mathlib.Core.Bool.{Bool, true, false, _&&_}
+use mathlib.Core.Bool.{Bool, true, false, not, _&&_, _||_}
 use mathlib.Core.List.{List}
-use Prim.Native.Nat.{ℕ, _<_}
+use Prim.Native.Nat.{ℕ, _%_, _<_, _≤_}
 use native.Mathlib.Omega.{arith}
-use lib.Dec.{leb}
+use lib.Dec.{eqb, leb, ltb}
 use lib.ListN.{length, getD}
-use borrow.Author.Tests.{leb-false}
+use borrow.Author.Tests.{leb-false, ltb-false}
 use Rattle.semantics.specs.Formula.{Formula, depth, falsum, neg, conj, disj, atLeast, atMost}
 use Rattle.semantics.specs.Structure.{Structure}
 use Rattle.semantics.specs.Truth.{truth}
@@ -18,7 +19,7 @@ use Rattle.faults.proofs.Each.{not-refused, neither, both-accepted, each-accept
 use Rattle.table.specs.declared.entry.Entry.{Entry}
 use Rattle.table.specs.Entry.{entryAt, size}
 use Rattle.table.specs.Formulas.{kinds, formulaOf, formulaAt, depthAt, depthOf}
-use Rattle.table.specs.Check.{usesOf, hasStray, refersUp, entryVerdict, entriesVerdict, lengthFaulty, tableVerdict}
+use Rattle.table.specs.Check.{usesOf, hasStray, refersUp, entryVerdict, lengthFaulty, tableVerdict}
 use Rattle.table.proofs.Cases.{by-kind}
 use Rattle.table.proofs.Formulas.{earlier, earlier-below, formulaAt-earlier, truthOf, truth-formulaOf, depth-formulaOf}
 use Rattle.table.specs.Formed.{Fitting, WellFormed}
@@ -75,9 +76,17 @@ entry-accepted e i ok =
       second = below-if-used (usesOf (e .kind) .second) i (e .second) (down .1);
     }
 
--- an accepted table is well-formed
-pub accepted : (bytes : List ℕ) → tableVerdict bytes ≡ Accepted → WellFormed (entryAt bytes) (size bytes)
-unfolding tableVerdict
-accepted bytes ok i h =
-    let entries = both-accepted (refuseIf (lengthFaulty (length bytes)) TableLength) _ ok .1 in
-    entry-accepted (entryAt bytes i) i (each-accepted _ (size bytes) (both-accepted (entriesVerdict (entryAt bytes) (size bytes)) _ entries .0) i h)
+module _ (bytes : List ℕ) (ok : tableVerdict bytes ≡ Accepted) where
+  -- an accepted table is well-formed
+  pub accepted : WellFormed (entryAt bytes) (size bytes)
+  unfolding tableVerdict
+  accepted i h =
+      let entries = both-accepted (refuseIf (lengthFaulty (length bytes)) TableLength) _ ok .1 in
+      entry-accepted (entryAt bytes i) i (each-accepted _ (size bytes) entries i h)
+
+  pub accepted-small : size bytes ≤ 64
+  unfolding tableVerdict
+  accepted-small =
+      let long = not-refused (lengthFaulty (length bytes)) TableLength (both-accepted (refuseIf (lengthFaulty (length bytes)) TableLength) _ ok .0) in
+      let short = neither (eqb (length bytes) 0) (ltb 256 (length bytes)) (neither (eqb (length bytes) 0 || ltb 256 (length bytes)) (not (eqb (length bytes % 4) 0)) long .0) .1 in
+      omega (arith, ltb-false 256 (length bytes) short)

@@ -1,15 +1,14 @@
--- Which tables are accepted, and the number that any other is refused with: document 01, faults 1 to 5 in its order.
+-- Which tables are accepted, and the number that any other is refused with: document 01, faults 1 to 4 in its order.
 use mathlib.Core.Bool.{Bool, true, false, not, _&&_, _||_}
 use mathlib.Core.List.{List, [], _∷_}
 use Prim.Native.Nat.{ℕ, _%_}
 use lib.Dec.{eqb, leb, ltb}
 use lib.ListN.{length, getD}
-use Rattle.faults.specs.declared.Fault.the-variants.{TableLength, Kind, UnusedField, Reference, Depth}
+use Rattle.faults.specs.declared.Fault.the-variants.{TableLength, Kind, UnusedField, Reference}
 use Rattle.faults.specs.declared.Verdict.{Verdict}
 use Rattle.faults.specs.Verdict.{refuseIf, andThen, each}
 use Rattle.table.specs.declared.entry.Entry.{Entry}
 use Rattle.table.specs.Entry.{entryAt, size}
-use Rattle.table.specs.Formulas.{depthAt}
 
 -- which fields a kind uses
 pub record Uses : Type 0 where
@@ -64,16 +63,10 @@ entryVerdict e i = andThen (refuseIf (leb 8 (e .kind)) Kind) (fieldsVerdict e i)
 abbrev pub entriesVerdict : (ℕ → Entry) → ℕ → Verdict
 entriesVerdict entry n = each (λ i. entryVerdict (entry i) i) n
 
--- 5: some entry's depth is over 63
-abbrev pub depthVerdict : (ℕ → Entry) → ℕ → Verdict
-depthVerdict entry n = each (λ i. refuseIf (ltb 63 (depthAt entry i)) Depth) n
-
 -- 1
 abbrev pub lengthFaulty : ℕ → Bool
 lengthFaulty n = eqb n 0 || ltb 256 n || not (eqb (n % 4) 0)
 
--- 1; then entry by entry 2, 3, 4; then 5
+-- 1; then entry by entry 2, 3, 4
 unfoldable pub tableVerdict : List ℕ → Verdict
-tableVerdict bytes =
-    andThen (refuseIf (lengthFaulty (length bytes)) TableLength)
-    (andThen (entriesVerdict (entryAt bytes) (size bytes)) (depthVerdict (entryAt bytes) (size bytes)))
+tableVerdict bytes = andThen (refuseIf (lengthFaulty (length bytes)) TableLength) (entriesVerdict (entryAt bytes) (size bytes))

@@ -3,7 +3,7 @@
 pub mod Entry
 -- entries to formulas
 pub mod Formulas
--- the faults 1 to 5, in order
+-- the faults 1 to 4, in order
 pub mod Check
 -- the bits of a packed entry that its kind uses
 pub mod Mask

@@ -1,21 +1,18 @@
-// The check of a table: the faults 1 to 5 of document 01, in its order.
+// The check of a table: the faults 1 to 4 of document 01, in its order.
 ghost use mathlib.Core.Path.{_≡_};
 ghost use mathlib.Core.Bool.{_&&_};
-ghost use Prim.Native.Nat.{_<_, _≤_};
+ghost use Prim.Native.Nat.{_<_};
 ghost use lib.Dec.{eqb, leb};
 ghost use Rattle.table.specs.Entry.{entryOf, entryAt};
-ghost use Rattle.table.specs.Check.{usesOf, refersUp, fieldsVerdict, entryVerdict, entriesVerdict, depthVerdict, tableVerdict};
+ghost use Rattle.table.specs.Check.{usesOf, refersUp, fieldsVerdict, entryVerdict, entriesVerdict, tableVerdict};
 ghost use Rattle.table.specs.Mask.{usedBits};
-use crate::depth;
 use crate::entry;
 use crate::entry::Entry;
 use faults::Fault;
 use faults::Verdict;
 
-// The longest table, in bytes, and the greatest depth.
+// The longest table, in bytes.
 const MAX_BYTES: usize = 256;
-
-const MAX_DEPTH: u64 = 63;
 
 // The bits of a 32-bit entry that each kind uses: the kind's own, and those of the fields that it uses.
 const USED: [u32; 8] = [
@@ -99,22 +96,6 @@ fn check_entries(table: &[u8], n: usize) -> Verdict
     Verdict::Accepted
 }
 
-// Depth by depth.
-fn check_depths(table: &[u8], n: usize) -> Verdict
-    requires { ⌜ n ≤ 64 ⌝ }
-    ensures { λ r. ⌜ r ≡ depthVerdict (entryAt (now (table .entry))) n ⌝ }
-{
-    let depths = depth::depths(table, n);
-    let mut i = 0;
-    while i < n {
-        if MAX_DEPTH < depths[i] {
-            return Verdict::Refused(Fault::Depth);
-        }
-        i += 1;
-    }
-    Verdict::Accepted
-}
-
 // Whether a table is accepted; if not, its first fault in document 01's order.
 pub fn check(table: &[u8]) -> Verdict
     ensures { λ r. ⌜ r ≡ tableVerdict (now (table .entry)) ⌝ }
@@ -129,9 +110,5 @@ pub fn check(table: &[u8]) -> Verdict
     if bytes % 4 != 0 {
         return Verdict::Refused(Fault::TableLength);
     }
-    let entries = check_entries(table, bytes / 4);
-    let Verdict::Accepted = entries else {
-        return entries;
-    };
-    check_depths(table, bytes / 4)
+    check_entries(table, bytes / 4)
 }

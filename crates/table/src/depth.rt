@@ -2,6 +2,7 @@
 ghost use mathlib.Core.Path.{_≡_};
 ghost use Prim.Native.Nat.{_≤_};
 ghost use Rattle.table.specs.Entry.{entryAt};
+ghost use Rattle.table.specs.Formed.{WellFormed};
 ghost use Rattle.table.specs.Formulas.{depthOf, Depths};
 use crate::entry;
 use numbers::max;
@@ -23,7 +24,7 @@ fn depth_of(first: u64, second: u64, kind: u32) -> u64
 
 // The depth of each of the first n entries, and 0 behind them.
 pub fn depths(table: &[u8], n: usize) -> [u64; 64]
-    requires { ⌜ n ≤ 64 ⌝ }
+    requires { ⌜ (n ≤ 64) × WellFormed (entryAt (now table)) n ⌝ }
     ensures { λ r. ⌜ Depths (entryAt (now (table .entry))) n r ⌝ }
 {
     let mut depth = [0u64; 64];

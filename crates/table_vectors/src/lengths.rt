@@ -32,12 +32,21 @@ pub fn lengths(before: Tally) -> Tally {
     length_cases(tally, facts())
 }
 
-// The deepest tables. Entry i has depth i at most, and i is at most 63, so no table within the length gives 5.
+// The first entries of a table, as many as it may have and fewer.
+fn prefixes(before: Tally, table: Room) -> Tally {
+    let mut tally = before;
+    for entries in 1..65 {
+        tally = case(tally, table, 4 * entries, 0);
+    }
+    tally
+}
+
+// The deepest tables: entry i has depth i at most, so no table is refused for its depth (document 02, P4).
 pub fn depths(before: Tally) -> Tally {
-    let mut tally = before.subject(10000);
-    // 63 counting entries over one fact: at least, at most, and the two in turn.
+    // Counting entries over one fact, none to 63 of them.
     let at_least = chain(6, 6, 7, 1);
-    tally = case(tally, at_least, 256, 0);
+    let mut tally = prefixes(before.subject(10000), at_least);
+    // 63 of them, at most, and the two in turn.
     tally = case(tally, chain(7, 7, 7, 1), 256, 0);
     tally = case(tally, chain(6, 7, 7, 255), 256, 0);
     tally = case(tally, chain(7, 6, 255, 0), 256, 0);

@@ -22,8 +22,6 @@ pub const AT_MOST: u8 = 7;
 
 /// The most entries that a table holds.
 pub const MOST_ENTRIES: usize = 64;
-/// The greatest depth that an entry may have.
-pub const MOST_DEPTH: usize = 63;
 /// The most records that a structure holds.
 pub const MOST_RECORDS: usize = 1024;
 

@@ -202,6 +202,7 @@ fn the_longest_tables() {
     for _ in 0..63 {
         last = chain.at_least(1, R, last);
     }
+    assert_eq!(hurnavis::check_table(&chain.bytes()), Ok(()));
     let entries = refusals::table(&chain.bytes()).unwrap();
     assert_eq!(layout::depths(&entries)[63], 63);
     assert!(decision(&chain));

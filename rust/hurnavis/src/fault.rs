@@ -5,8 +5,9 @@ use std::fmt;
 
 /// Why a call was refused. A refused call changes nothing that was lent to it.
 ///
-/// The first fault in order counts: 1; then entry by entry 2, 3, 4; then 5; then 6; then record by record 7, 8; then 9;
-/// then 10. A call skips what it does not take. Later calls add faults.
+/// The first fault in order counts: 1; then entry by entry 2, 3, 4; then 6; then record by record 7, 8; then 9; then 10. A call
+/// skips what it does not take. Later calls add faults. No fault has the number 5: it was for depths over 63, and a table of 64
+/// entries has none.
 ///
 /// ```
 /// use hurnavis::{check_table, Fault};
@@ -28,8 +29,6 @@ pub enum Fault {
     UnusedField = 3,
     /// 4: a used reference is not smaller than the entry's own number.
     Reference = 4,
-    /// 5: an entry's depth is over 63.
-    Depth = 5,
     /// 6: a structure of length 0, over 3,072 bytes, or not a multiple of 3.
     StructureLength = 6,
     /// 7: a first record that is no header, a later one that is, a kind 3, or a zero bit that is 1.
@@ -43,12 +42,11 @@ pub enum Fault {
 }
 
 /// Every fault, in the order of the numbers.
-const ALL: [Fault; 10] = [
+const ALL: [Fault; 9] = [
     Fault::TableLength,
     Fault::Kind,
     Fault::UnusedField,
     Fault::Reference,
-    Fault::Depth,
     Fault::StructureLength,
     Fault::Record,
     Fault::World,
@@ -76,7 +74,6 @@ impl Fault {
             Fault::Kind => "an entry's kind is over 7, and there are only 0 to 7",
             Fault::UnusedField => "an entry has something in a field that its kind does not use",
             Fault::Reference => "an entry refers to itself or to a later one",
-            Fault::Depth => "an entry's depth, how often counts stand in counts, is over 63",
             Fault::StructureLength => {
                 "the structure does not have 1 to 1,024 whole records: its length is 0, over 3,072 bytes, or not a multiple of 3"
             }
@@ -104,11 +101,12 @@ mod tests {
 
     #[test]
     fn numbers_go_both_ways() {
-        for (i, fault) in ALL.into_iter().enumerate() {
-            assert_eq!(fault.number() as usize, i + 1);
-            assert_eq!(Fault::from_number(fault.number()), Some(fault));
+        for (number, fault) in [1, 2, 3, 4, 6, 7, 8, 9, 10].into_iter().zip(ALL) {
+            assert_eq!(fault.number(), number);
+            assert_eq!(Fault::from_number(number), Some(fault));
         }
-        assert_eq!(Fault::from_number(0), None);
-        assert_eq!(Fault::from_number(11), None);
+        for unused in [0, 5, 11] {
+            assert_eq!(Fault::from_number(unused), None);
+        }
     }
 }

@@ -3,12 +3,14 @@ use mathlib.Core.Path.{_≡_, sym, ap, _∙_}
 use native.Mathlib.Omega.{arith}
 use lib.Seq.{length-front, length-take-le}
 use borrow.Author.Needs.{needs}
-use Rattle.table.specs.Space.{tableWork}
-use Rattle.decision.specs.Decide.{entryWork}
-use Rattle.decision.proofs.Deciding.{accepted-small, accepted-shallow, cleared-over}
-use Rattle.decision.proofs.Pair.{one-depth}
 use Rattle.table.specs.Entry.{entryAt}
 use Rattle.table.specs.Formulas.{depthAt}
+use Rattle.table.specs.Space.{tableWork}
+use Rattle.table.proofs.Accepted.{accepted-small}
+use Rattle.table.proofs.Shallow.{accepted-shallow}
+use Rattle.decision.specs.Decide.{entryWork}
+use Rattle.decision.proofs.Clearing.{cleared-over}
+use Rattle.decision.proofs.Pair.{one-depth}
 use Rattle.decision.proofs.answer.Statement.{statement}
 use Rattle.decision.proofs.answer.Tie as tie
 

@@ -5,7 +5,7 @@ use Prim.Native.Nat.{ℕ}
 use native.Mathlib.Omega.{arith}
 use borrow.Author.Needs.{needs}
 use Rattle.sets.specs.Set.{member, nothing, added}
-use Rattle.decision.proofs.Deciding.{accepted-small}
+use Rattle.table.proofs.Accepted.{accepted-small}
 use Rattle.mark.proofs.Question.{pair-asked, pair-answer}
 use Rattle.mark.proofs.beyond.Statement.{statement}
 use Rattle.mark.proofs.beyond.Tie as tie

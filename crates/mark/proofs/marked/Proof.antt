@@ -5,8 +5,9 @@ use native.Mathlib.Omega.{arith}
 use lib.Seq.{length-front, length-take-le}
 use borrow.Author.Needs.{needs}
 use Rattle.table.specs.Space.{tableWork}
+use Rattle.table.proofs.Accepted.{accepted-small}
 use Rattle.decision.specs.Call.{pairWork}
-use Rattle.decision.proofs.Deciding.{accepted-small, cleared-over}
+use Rattle.decision.proofs.Clearing.{cleared-over}
 use Rattle.decision.proofs.Pair.{pair-shallow}
 use Rattle.mark.proofs.marked.Statement.{statement}
 use Rattle.mark.proofs.marked.Tie as tie

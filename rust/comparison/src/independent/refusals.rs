@@ -1,10 +1,10 @@
-//! Document 01's refusals 1 to 8, in its order.
+//! Document 01's refusals 1 to 8, in its order, without 5, which document 02 takes out (P4).
 
 use super::truth::Structure;
 use crate::layout::{self, Entry};
 use hurnavis::Fault;
 
-/// The entries of a table, or its first fault: 1; then entry by entry 2, 3, 4; then 5.
+/// The entries of a table, or its first fault: 1; then entry by entry 2, 3, 4.
 pub fn table(bytes: &[u8]) -> Result<Vec<Entry>, Fault> {
     if bytes.is_empty() || bytes.len() > 256 || bytes.len() % 4 != 0 {
         return Err(Fault::TableLength);
@@ -12,12 +12,6 @@ pub fn table(bytes: &[u8]) -> Result<Vec<Entry>, Fault> {
     let entries = layout::unpack_table(bytes);
     for (number, entry) in entries.iter().enumerate() {
         check_entry(number, *entry)?;
-    }
-    if layout::depths(&entries)
-        .iter()
-        .any(|d| *d > layout::MOST_DEPTH)
-    {
-        return Err(Fault::Depth);
     }
     Ok(entries)
 }

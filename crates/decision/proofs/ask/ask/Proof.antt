@@ -6,12 +6,11 @@ use lib.Seq.{length-take-le}
 use borrow.Author.Needs.{needs}
 use Rattle.table.specs.Entry.{size}
 use Rattle.table.specs.Space.{tableWork}
-use Rattle.table.proofs.Accepted.{accepted}
+use Rattle.table.proofs.Accepted.{accepted, accepted-small}
 use Prim.Native.Nat.{_/_}
 use Rattle.wide.specs.Wide.{wideAt}
 use Rattle.cases.proofs.Recalling.{from-fits, memory-to}
 use Rattle.satisfy.proofs.Calls.{room-kept}
-use Rattle.decision.proofs.Deciding.{accepted-small}
 use Rattle.decision.proofs.Question.{sets-asked, sets-room, sets-answer}
 use Rattle.decision.proofs.ask.ask.Statement.{statement}
 use Rattle.decision.proofs.ask.ask.Tie as tie

@@ -6,7 +6,7 @@ use native.Mathlib.Numerals.{add-one}
 use native.Mathlib.Omega.{arith}
 use borrow.Author.Needs.{needs}
 use Rattle.decision.specs.Call.{Cleared}
-use Rattle.decision.proofs.Deciding.{cleared-none, cleared-either}
+use Rattle.decision.proofs.Clearing.{cleared-none, cleared-either}
 use Rattle.decision.proofs.call.clear.Statement.{statement}
 use Rattle.decision.proofs.call.clear.Tie as tie
 

@@ -3,7 +3,7 @@ use mathlib.Core.Path.{_∙_, ap₂}
 use Prim.Native.Nat.{max}
 use native.Mathlib.Omega.{arith}
 use borrow.Author.Needs.{needs}
-use Rattle.decision.proofs.Deciding.{accepted-small}
+use Rattle.table.proofs.Accepted.{accepted, accepted-small}
 use Rattle.decision.proofs.call.pair_depth.Statement.{statement}
 use Rattle.decision.proofs.call.pair_depth.Tie as tie
 
@@ -23,7 +23,7 @@ pub pair-depth-spec : {M : Type 1} → statement M
 pair-depth-spec =
     tie.close
     (tie.spec
-    (λ c κs. accepted-small _ (c .before .pre .0))
+    (λ c κs. let ok = c .before .pre .0 in (accepted-small _ ok, accepted _ ok))
     (λ c. search needs)
     array-read-max
     (λ c. search needs)

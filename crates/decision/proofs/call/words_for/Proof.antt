@@ -6,7 +6,7 @@ use borrow.Author.Tests.{lt-leb, le-leb}
 use Rattle.faults.specs.declared.Verdict.the-variants.{Accepted}
 use Rattle.table.specs.Check.{tableVerdict}
 use Rattle.table.specs.Space.{tableWork}
-use Rattle.decision.proofs.Deciding.{accepted-small}
+use Rattle.table.proofs.Accepted.{accepted-small}
 use Rattle.decision.proofs.Pair.{pair-shallow}
 use Rattle.decision.proofs.call.words_for.Statement.{statement}
 use Rattle.decision.proofs.call.words_for.Tie as tie

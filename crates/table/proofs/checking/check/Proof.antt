@@ -1,5 +1,5 @@
 -- `check` meets its contract: each test is that of the definition, in its order.
-use mathlib.Core.Path.{_≡_, _∙_, sym}
+use mathlib.Core.Path.{_≡_}
 use mathlib.Core.Bool.{false}
 use lib.ListN.{length}
 use borrow.Author.Needs.{needs}
@@ -26,26 +26,7 @@ fitting c = simp (ne-eqb _ _ (c .before .before .if1 .left), le-ltb _ _ (c .befo
 
 returns-4 : tie.Need-returns-4
 unfolding tableVerdict
-returns-4 c =
-    let found = c .enum-told2 .given .1 in
-    simp (fitting (c .before .before .before), sym (c .before .before .check-entries .ensures) ∙ found) found
-
-returns-5 : tie.Need-returns-5
-unfolding tableVerdict
-returns-5 c =
-    let entries = c .before .before .before .check-entries .ensures in
-    simp (fitting (c .before .before .before .before), sym entries ∙ c .before .enum-told .given .1) (c .check-depths .ensures)
+returns-4 c = simp (fitting (c .before)) (c .check-entries .ensures)
 
 pub check-spec : {M : Type 1} → statement M
-check-spec =
-    tie.close
-    (tie.spec
-    returns
-    returns-2
-    returns-3
-    (λ c κs. search needs)
-    (λ c. search needs)
-    (λ c. search needs)
-    returns-4
-    (λ c κs. search needs)
-    returns-5)
+check-spec = tie.close (tie.spec returns returns-2 returns-3 (λ c κs. search needs) returns-4)

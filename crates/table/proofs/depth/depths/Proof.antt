@@ -28,6 +28,12 @@ references c =
     let s : c .entry-at .result .second ≡ e .second = cc in
     omega arith
 
+depth-of-requires : tie.Need-depth-of-requires Inv-loop μ-loop
+depth-of-requires c κs =
+    let pre = c .before .before .before .before .before .before .pre in
+    let inv = c .before .before .before .before .loop .inv in
+    omega (arith, depths-le (pre .1) (inv .2) (inv .0) (c .before .before .entry-at .result .first))
+
 -- what the call says of entry i
 here : (c : tie.After-depth-of Inv-loop μ-loop)
     → c .depth-of .result ≡ depthAt (entryAt (c .before .before .before .before .before .before .before .args .table .now)) (c .before .before .before .before .before .loop .i)
@@ -60,7 +66,7 @@ depths-spec =
     (λ c. references (c .before .before) .0)
     (λ c. omega (arith, references (c .before .before)))
     (λ c. references (c .before .before) .1)
-    (λ c κs. omega (arith, depths-le _ (c .before .before .before .before .loop .inv .2) (c .before .before .entry-at .result .first)))
+    depth-of-requires
     (λ c. search needs)
     (λ c. search needs)
     (λ c. search needs)
