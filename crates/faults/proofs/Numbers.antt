@@ -35,7 +35,7 @@ same-fault f g e = sym (fault-of f) ∙ ap faultOf e ∙ fault-of g
 unused : (n : ℕ) → (numberOf (faultOf n) ≡ n → ⊥) → (f : Fault) → numberOf f ≡ n → ⊥
 unused n other f e = other (ap (λ (m : ℕ). numberOf (faultOf m)) (sym e) ∙ ap numberOf (fault-of f) ∙ e)
 
-no-fault : (f : Fault) → numberOf f ≡ 0 → ⊥
+pub no-fault : (f : Fault) → numberOf f ≡ 0 → ⊥
 unfolding faultOf
 no-fault = unused 0 (λ e. absurd (omega (arith, e)))
 

@@ -6,8 +6,8 @@ use std::fmt;
 /// Why a call was refused. A refused call changes nothing that was lent to it.
 ///
 /// The first fault in order counts: 1; then entry by entry 2, 3, 4; then 6; then record by record 7, 8; then 9; then 10. A call
-/// skips what it does not take. Later calls add faults. No fault has the number 5: it was for depths over 63, and a table of 64
-/// entries has none.
+/// skips what it does not take. Later calls add faults. No fault has the number 5: it was for depths over 63, which no table has
+/// that is accepted otherwise.
 ///
 /// ```
 /// use hurnavis::{check_table, Fault};
