@@ -107,9 +107,10 @@ static void places_of_answers(void)
     EXPECT(hurnavis_decide(table, sizeof table, 0, words, 64, place + 1) == 0 && place[1] == 1);
     EXPECT(hurnavis_decide(table, sizeof table, 1, words, 64, place + 1) == 0 && place[1] == 0);
     EXPECT(hurnavis_mark(table, sizeof table, 0, 0, words, 64, place + 1) == 0 && place[1] == HURNAVIS_EQUAL);
-    EXPECT(hurnavis_mark(table, sizeof table, 0, 1, words, 64, place + 1) == 0 && place[1] == HURNAVIS_NARROWER);
+    EXPECT(hurnavis_mark(table, sizeof table, 0, 1, words, 64, place + 1) == 0 && place[1] == HURNAVIS_IMPOSSIBLE);
+    EXPECT(hurnavis_mark(table, sizeof table, 1, 1, words, 64, place + 1) == 0 && place[1] == HURNAVIS_IMPOSSIBLE);
     EXPECT(hurnavis_mark(table, sizeof table, 1, 0, words, 64, place + 1) == 0 && place[1] == HURNAVIS_WIDER);
-    EXPECT(HURNAVIS_CROSSING == 3);
+    EXPECT(HURNAVIS_NARROWER == 1 && HURNAVIS_CROSSING == 3 && HURNAVIS_IMPOSSIBLE == 4);
     EXPECT(place[0] == 9 && place[2] == 9);
 }
 

@@ -35,11 +35,12 @@ extern "C" {
 #define HURNAVIS_ENTRY_NUMBER 9u     /* an entry number is not below the number of entries */
 #define HURNAVIS_SPACE 10u           /* the lent words are fewer than the call needs */
 
-/* The marks: how the answer stands to the model. */
-#define HURNAVIS_EQUAL 0u    /* they hold at the same worlds of every finite structure */
-#define HURNAVIS_NARROWER 1u /* the answer never holds without the model, the model somewhere without the answer */
-#define HURNAVIS_WIDER 2u    /* the reverse of narrower */
-#define HURNAVIS_CROSSING 3u /* each holds somewhere without the other */
+/* The marks: how an answer that holds somewhere stands to the model; 4 is that of an answer that holds nowhere. */
+#define HURNAVIS_EQUAL 0u      /* they hold at the same worlds of every finite structure */
+#define HURNAVIS_NARROWER 1u   /* the answer never holds without the model, the model somewhere without the answer */
+#define HURNAVIS_WIDER 2u      /* the reverse of narrower */
+#define HURNAVIS_CROSSING 3u   /* each holds somewhere without the other */
+#define HURNAVIS_IMPOSSIBLE 4u /* the answer holds at no world of any finite structure, whatever the model is */
 
 /* A table is 1 to 64 entries of 4 bytes, numbered from 0. An entry is a description, and refers to earlier entries by their
  * numbers. Facts and relations are numbered 0 to 255; what they stand for is the caller's affair. An entry's 32 bits are kind

@@ -1,32 +1,31 @@
--- The question that a call asks of the engine, in the wide words, and what its answer says of one entry.
+-- The questions that a call asks of the engine, in the wide words, and what an answer says of one entry.
 use mathlib.Core.Path.{_≡_, refl, sym, ap, ap₂, _∙_}
 use mathlib.Core.Logic.{by-cases}
 use mathlib.Core.Bool.{Bool, true, false, _||_, false≢true}
 use mathlib.Core.List.{List}
 use Prim.Native.Nat.{ℕ, zero, suc, _+_, _*_, _/_, _<_, _≤_}
-use native.Mathlib.Nat.{mul-comm, mul-assoc, le-of-eq, le-trans}
+use native.Mathlib.Nat.{mul-comm, mul-assoc, le-trans}
 use native.Mathlib.Decide.{ℕ-discrete}
 use native.Mathlib.Numerals.{add-one}
 use native.Mathlib.Omega.{arith}
-use lib.ListN.{take}
+use lib.ListN.{length, take}
 use borrow.Author.Tests.{eq-eqb, ne-eqb}
+use Rattle.semantics.specs.Formula.{Formula}
 use Rattle.semantics.specs.Structure.{Structure}
-use Rattle.semantics.specs.Truth.{Satisfiable}
+use Rattle.semantics.specs.Truth.{truth, Satisfiable}
+use Rattle.semantics.specs.Answer.{Answers}
 use Rattle.sets.specs.Set.{nothing, added}
 use Rattle.table.specs.declared.entry.Entry.{Entry}
 use Rattle.table.specs.Entry.{entryAt, size}
-use Rattle.table.specs.Formulas.{formulaAt, depthAt}
+use Rattle.table.specs.Formulas.{formulaAt}
 use Rattle.table.specs.Space.{weight, gradeSum, tableWork}
-use Rattle.faults.specs.declared.Verdict.the-variants.{Accepted}
-use Rattle.table.specs.Check.{tableVerdict}
-use Rattle.table.proofs.Accepted.{accepted-small}
-use Rattle.semantics.specs.Answer.{Answers}
-use Rattle.tableau.specs.Wants.{truthAt, Sat}
-use Rattle.wide.specs.Wide.{wideAt, Widened}
-use Rattle.wide.proofs.Widening.{wide-weight, wide-formed, wide-stands}
-use Rattle.cases.specs.Levels.{Roomy}
-use Rattle.satisfy.specs.Sets.{SetsAsked}
-use Rattle.decision.specs.Ask.{TableAsked}
+use Rattle.tableau.specs.Wants.{wanted, Sat}
+use Rattle.wide.specs.Wide.{wideAt, StandsFor, Widened}
+use Rattle.wide.proofs.Widening.{wide-weight, wide-stands}
+use Rattle.cases.specs.Levels.{Roomy, Remembers}
+use Rattle.satisfy.specs.Sets.{QuestionAsked}
+use Rattle.satisfy.proofs.Calls.{room-kept}
+use Rattle.decision.specs.Ask.{Prepared, There}
 
 grades-ext : (entry entry′ : ℕ → Entry) (n : ℕ) → ((i : ℕ) → i < n → weight (entry i) ≡ weight (entry′ i)) → gradeSum entry n ≡ gradeSum entry′ n
 unfolding gradeSum
@@ -43,40 +42,19 @@ half d x =
       mul-comm (d + 1) x ∙ ap (λ (k : ℕ). x * k) (add-one d),
     )
 
-module _ (bytes words : List ℕ) {yes no : ℕ → Bool} {d count : ℕ} (asked : TableAsked bytes yes no d count) (held : Widened bytes (size bytes) words) where
-  pub sets-asked : SetsAsked (wideAt (take (size bytes) words)) (size bytes) yes no d
-  sets-asked = record {
-    formed = wide-formed held;
-    few = accepted-small bytes (asked .accepted);
-    below = asked .below;
-    shallow = λ b i h. le-trans (wide-stands held i (asked .below b i h) .shallow) (asked .shallow b i h);
-  }
-
-  pub sets-room : Roomy (wideAt (take (size bytes) words)) (size bytes) d (tableWork bytes 0 / 2) count
-  sets-room =
+-- the words that a table's entries are unpacked into
+module _ (bytes words : List ℕ) {d count : ℕ} (enough : tableWork bytes d ≤ count) (held : Widened bytes (size bytes) words) where
+  pub table-room : Roomy (wideAt (take (size bytes) words)) (size bytes) d (tableWork bytes 0 / 2) count
+  table-room =
       let g = gradeSum (entryAt bytes) (size bytes) in
       let same : tableWork bytes 0 / 2 ≡ 4 * (2 * size bytes + g + 4) = omega arith in
       record {
         stack = omega (arith, grades-ext (wideAt (take (size bytes) words)) (entryAt bytes) (size bytes) (wide-weight held));
-        levels = rw same (omega (arith, half d (2 * size bytes + g + 4), asked .enough));
+        levels = rw same (omega (arith, half d (2 * size bytes + g + 4), enough));
       }
 
-  truth-same : (s : Structure) (w i : ℕ) → i < size bytes → truthAt (wideAt (take (size bytes) words)) s w i ≡ truthAt (entryAt bytes) s w i
-  truth-same s w i inside = wide-stands held i inside .same s w
-
-  pub sets-answer : (r : Bool) → Answers r (Sat (wideAt (take (size bytes) words)) yes no) → Answers r (Sat (entryAt bytes) yes no)
-  sets-answer true sat = record {
-    structure = sat .structure;
-    world = sat .world;
-    inside = sat .inside;
-    meets = record { as-wanted = λ b i h. sym (truth-same _ _ i (asked .below b i h)) ∙ sat .meets .as-wanted b i h };
-  }
-  sets-answer false none = λ sat. none (record {
-    structure = sat .structure;
-    world = sat .world;
-    inside = sat .inside;
-    meets = record { as-wanted = λ b i h. truth-same _ _ i (asked .below b i h) ∙ sat .meets .as-wanted b i h };
-  })
+  pub table-there : (e : ℕ) → There (entryAt bytes) (size bytes) d e → There (wideAt (take (size bytes) words)) (size bytes) d e
+  table-there e (inside, deep) = (inside, le-trans (wide-stands held e inside .shallow) deep)
 
 -- the set of e alone
 pub only-one : (e i : ℕ) → added nothing e i ≡ true → i ≡ e
@@ -87,14 +65,21 @@ only-one e i h =
 pub has-one : (e : ℕ) → added nothing e e ≡ true
 has-one e = ap (λ (b : Bool). b || false) (eq-eqb e e refl)
 
-pub entry-asked : (bytes : List ℕ) (e : ℕ) {d count : ℕ} → tableVerdict bytes ≡ Accepted → e < size bytes → depthAt (entryAt bytes) e ≡ d → tableWork bytes d ≤ count
-    → TableAsked bytes (added nothing e) nothing d count
-entry-asked bytes e ok inside deep enough = record {
-  accepted = ok;
-  below = elim [ true ↦ λ i h. rw (only-one e i h) inside | false ↦ λ i h. absurd (false≢true h) ];
-  shallow = elim [ true ↦ λ i h. rw (only-one e i h) (le-of-eq deep) | false ↦ λ i h. absurd (false≢true h) ];
-  enough = enough;
-}
+module _ {entry : ℕ → Entry} {n depth level : ℕ} {words : List ℕ} (ready : Prepared entry n depth level words) where
+  -- every entry of two sets is there
+  pub sets-asked : (ts fs : ℕ → Bool) → ((b : Bool) (i : ℕ) → wanted ts fs b i ≡ true → There entry n depth i) → QuestionAsked entry n ts fs depth level words
+  sets-asked ts fs there = record {
+    sets = record { formed = ready .formed; few = ready .few; below = λ b i h. there b i h .0; shallow = λ b i h. there b i h .1 };
+    room = ready .room;
+    memory = ready .memory;
+  }
+
+  pub one-asked : (e : ℕ) → There entry n depth e → QuestionAsked entry n (added nothing e) nothing depth level words
+  one-asked e there = sets-asked _ _ (elim [ true ↦ λ i h. rw (only-one e i h) there | false ↦ λ i h. absurd (false≢true h) ])
+
+  -- a question leaves as many words, which remember what is right
+  pub next-prepared : {worked : List ℕ} → length worked ≡ length words → Remembers entry depth level worked → Prepared entry n depth level worked
+  next-prepared as-many memory = record { formed = ready .formed; few = ready .few; room = room-kept as-many (ready .room); memory = memory }
 
 module _ (entry : ℕ → Entry) (e : ℕ) where
   pub entry-answer : (r : Bool) → Answers r (Sat entry (added nothing e) nothing) → Answers r (Satisfiable (formulaAt entry e))
@@ -115,3 +100,17 @@ module _ (entry : ℕ → Entry) (e : ℕ) where
       ];
     };
   })
+
+module _ {φ ψ : Formula} where
+  -- formulas that are true at the same worlds are satisfiable together
+  pub satisfiable-same : ((s : Structure) (w : ℕ) → w < s .worlds → truth s φ w ≡ truth s ψ w) → Satisfiable φ → Satisfiable ψ
+  satisfiable-same same sat = record {
+    structure = sat .structure;
+    world = sat .world;
+    inside = sat .inside;
+    holds = sym (same (sat .structure) (sat .world) (sat .inside)) ∙ sat .holds;
+  }
+
+pub stands-answer : {φ ψ : Formula} → StandsFor φ ψ → (r : Bool) → Answers r (Satisfiable φ) → Answers r (Satisfiable ψ)
+stands-answer stands true sat = satisfiable-same (λ s w inside. stands .same s w) sat
+stands-answer stands false none = λ sat. none (satisfiable-same (λ s w inside. sym (stands .same s w)) sat)

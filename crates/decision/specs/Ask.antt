@@ -1,18 +1,19 @@
--- A question about the entries of an accepted table: may those of one set be true at a world, and those of another false. An inner contract.
-use mathlib.Core.Path.{_≡_}
-use mathlib.Core.Bool.{Bool, true}
+-- Questions about the entries of a table, one after the other in the same words. An inner contract.
 use mathlib.Core.List.{List}
 use Prim.Native.Nat.{ℕ, _<_, _≤_}
-use Rattle.faults.specs.declared.Verdict.the-variants.{Accepted}
-use Rattle.table.specs.Entry.{entryAt, size}
+use lib.ListN.{length}
+use Rattle.table.specs.declared.entry.Entry.{Entry}
 use Rattle.table.specs.Formulas.{depthAt}
-use Rattle.table.specs.Space.{tableWork}
-use Rattle.table.specs.Check.{tableVerdict}
-use Rattle.tableau.specs.Wants.{wanted}
+use Rattle.table.specs.Formed.{WellFormed}
+use Rattle.cases.specs.Levels.{Roomy, Remembers}
 
--- the table is accepted, the entries are there and no deeper than the depth, and there are W words for that depth
-pub record TableAsked (bytes : List ℕ) (yes no : ℕ → Bool) (depth words : ℕ) : Type 0 where
-  pub accepted : tableVerdict bytes ≡ Accepted
-  pub below : (b : Bool) (i : ℕ) → wanted yes no b i ≡ true → i < size bytes
-  pub shallow : (b : Bool) (i : ℕ) → wanted yes no b i ≡ true → depthAt (entryAt bytes) i ≤ depth
-  pub enough : tableWork bytes depth ≤ words
+-- entries of this depth and less may be asked about: there are words enough, and what they remember is right
+pub record Prepared (entry : ℕ → Entry) (n depth level : ℕ) (words : List ℕ) : Type 0 where
+  pub formed : WellFormed entry n
+  pub few : n ≤ 64
+  pub room : Roomy entry n depth level (length words)
+  pub memory : Remembers entry depth level words
+
+-- the entry is there and no deeper than the depth
+abbrev pub There : (ℕ → Entry) → (n depth e : ℕ) → Type 0
+There entry n depth e = (e < n) × (depthAt entry e ≤ depth)

@@ -1,20 +1,38 @@
-// A question about a table: whether some world makes the entries of one set true and those of another false.
-ghost use lib.ListN.{length};
-ghost use Rattle.sets.specs.Set.{member};
-ghost use Rattle.table.specs.Entry.{entryAt};
+// Questions about a table, which is unpacked once for all questions of a call.
+ghost use mathlib.Core.Path.{_≡_};
+ghost use Prim.Native.Nat.{_/_, _≤_};
+ghost use lib.ListN.{length, take};
+ghost use Rattle.semantics.specs.Truth.{Satisfiable};
 ghost use Rattle.semantics.specs.Answer.{Answers};
-ghost use Rattle.tableau.specs.Wants.{Sat};
-ghost use Rattle.decision.specs.Ask.{TableAsked};
+ghost use Rattle.faults.specs.declared.Verdict.the-variants.{Accepted};
+ghost use Rattle.table.specs.Check.{tableVerdict};
+ghost use Rattle.table.specs.Entry.{size};
+ghost use Rattle.table.specs.Formulas.{formulaAt};
+ghost use Rattle.table.specs.Space.{tableWork};
+ghost use Rattle.wide.specs.Wide.{wideAt, Widened};
+ghost use Rattle.decision.specs.Ask.{Prepared, There};
+use satisfy::ask::satisfiable;
 use sets::Set;
 
-// None of the entries is deeper than the depth.
-pub fn ask(table: &[u8], yes: Set, no: Set, depth: usize, words: &mut [u64]) -> bool
-    requires { ⌜ TableAsked (now table) (member yes) (member no) depth (length (now words)) ⌝ }
-    ensures { λ r. ⌜ Answers r (Sat (entryAt (now (table .entry))) (member yes) (member no)) ⌝ }
+// The entries of the table as they are asked about. What the words held is forgotten.
+pub fn prepare(table: &[u8], depth: usize, level: usize, words: &mut [u64]) -> [u64; 64]
+    requires { ⌜ (tableVerdict (now table) ≡ Accepted) × (level ≡ tableWork (now table) 0 / 2) × (tableWork (now table) depth ≤ length (now words)) ⌝ }
+    ensures { λ r. ⌜ Widened (now (table .entry)) (size (now (table .entry))) r
+        × Prepared (wideAt (take (size (now (table .entry))) r)) (size (now (table .entry))) depth level (now (words .exit)) ⌝ }
 {
-    let n = table.len() / 4;
-    let level = table::space::work_words(table, 0) / 2;
     let entries = wide::widen(table);
     memory::forget(words, (depth + 1) * level);
-    satisfy::ask::satisfiable(&entries[..n], yes, no, depth, level, words)
+    entries
+}
+
+// Whether entry e is possible. The words are as good for the next question.
+pub fn possible(entries: &[u64], e: usize, depth: usize, level: usize, words: &mut [u64]) -> bool
+    requires { ⌜ Prepared (wideAt (now entries)) (length (now entries)) depth level (now words)
+        × There (wideAt (now entries)) (length (now entries)) depth e ⌝ }
+    ensures { λ r. ⌜ Answers r (Satisfiable (formulaAt (wideAt (now (entries .entry))) e))
+        × Prepared (wideAt (now (entries .entry))) (length (now (entries .entry))) depth level (now (words .exit)) ⌝ }
+{
+    let yes = Set::empty().with(e);
+    let no = Set::empty();
+    satisfiable(entries, yes, no, depth, level, words)
 }

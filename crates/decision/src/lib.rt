@@ -15,13 +15,13 @@ ghost use Rattle.decision.specs.Decide.{numberOf, entryWork, DecisionIs}
 pub mod ask;
 pub mod call;
 
-use ask::ask;
+use ask::possible;
+use ask::prepare;
 use call::checked;
 use call::clear;
 use call::pair_depth;
 use faults::Fault;
 use faults::Verdict;
-use sets::Set;
 
 // Whether some world of some finite structure makes the entry true; or why the call is refused.
 pub enum Decision {
@@ -44,14 +44,15 @@ impl Decision {
 }
 
 // Whether entry e, of this depth, is possible, worked in the words, which are W or more.
-fn possible(table: &[u8], e: usize, depth: usize, words: &mut [u64]) -> bool
+fn decided(table: &[u8], e: usize, depth: usize, words: &mut [u64]) -> bool
     requires { ⌜ (tableVerdict (now table) ≡ Accepted) × (e < size (now table)) × (depthAt (entryAt (now table)) e ≡ depth)
         × (tableWork (now table) depth ≤ length (now words)) ⌝ }
     ensures { λ r. ⌜ Answers r (Satisfiable (formulaAt (entryAt (now (table .entry))) e)) ⌝ }
 {
-    let yes = Set::empty().with(e);
-    let no = Set::empty();
-    ask(table, yes, no, depth, words)
+    let n = table.len() / 4;
+    let level = table::space::work_words(table, 0) / 2;
+    let entries = prepare(table, depth, level, words);
+    possible(&entries[..n], e, depth, level, words)
 }
 
 // The same, and the words worked in are cleared.
@@ -62,7 +63,7 @@ fn answer(table: &[u8], e: usize, words: &mut [u64]) -> bool
 {
     let depth = pair_depth(table, e, e);
     let needed = table::space::work_words(table, depth);
-    let found = possible(table, e, depth, &mut words[..needed]);
+    let found = decided(table, e, depth, &mut words[..needed]);
     clear(words, needed);
     found
 }

@@ -73,7 +73,7 @@ pub extern "C" fn hurnavis_decide(
     }
 }
 
-// 0 equal, 1 narrower, 2 wider, 3 crossing.
+// 0 equal, 1 narrower, 2 wider, 3 crossing, 4 an impossible answer.
 #[no_mangle]
 pub extern "C" fn hurnavis_mark(
     table: &[u8],

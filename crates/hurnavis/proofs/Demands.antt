@@ -9,6 +9,7 @@ use native.Mathlib.Decide.{decLt}
 use native.Mathlib.Omega.{arith}
 use lib.ListN.{length, getD}
 use borrow.Author.Tests.{le-ltb}
+use Rattle.semantics.specs.Formula.{Formula}
 use Rattle.semantics.specs.Truth.{truth, Satisfiable}
 use Rattle.sets.specs.Word.{bitAt}
 use Rattle.sets.proofs.Words.{bit-word, bit-word-high}
@@ -28,7 +29,7 @@ use Rattle.decision.specs.Call.{pairThere, pairVerdict, NeededIs, refusal as wo
 use Rattle.decision.specs.Decide.{numberOf as decided, refusal as decisionRefusal, decideVerdict, DecisionIs}
 use Rattle.mark.specs.declared.Mark.{Mark}
 use Rattle.mark.specs.declared.Marking.{Marking}
-use Rattle.mark.specs.Mark.{MarkIs, numberOf as markNumber, markingNumber, refusal as markRefusal, MarkingIs}
+use Rattle.mark.specs.Mark.{Same, Inside, Beyond, MarkIs, numberOf as markNumber, markingNumber, refusal as markRefusal, MarkingIs}
 use Rattle.mark.proofs.Exactly.{mark-unique, same-mark}
 
 -- Demand 1. A call is refused with a number; 0 says that it answers.
@@ -106,6 +107,17 @@ module _ (bytes : List ℕ) (e : ℕ) (before after : List ℕ) where
   decision-impossible Decision.Impossible is ok = (λ same. is .1, λ none. refl)
   decision-impossible (Decision.Refused g) is ok = absurd (accepted-refused (sym ok ∙ is .0))
 
+-- The number of the mark of a possible answer, as demand 3 has it.
+pub record Stands (model answer : Formula) (number : ℕ) : Type 0 where
+  pub equal : (number ≡ 0) ↔ Same model answer
+  pub narrower : (number ≡ 1) ↔ (Inside answer model × Beyond model answer)
+  pub wider : (number ≡ 2) ↔ (Inside model answer × Beyond answer model)
+  pub crossing : (number ≡ 3) ↔ (Beyond answer model × Beyond model answer)
+
+-- what is so need not be said
+where-so : {P Q A B : Type 0} → Q → P ↔ (Q × A × B) → P ↔ (A × B)
+where-so so exactly = (λ p. let (q, a, b) = exactly .0 p in (a, b), λ both. exactly .1 (so, both .0, both .1))
+
 -- Demands 1 and 3, of the mark.
 module _ (bytes : List ℕ) (model answer : ℕ) (before after : List ℕ) where
   pub mark-refused : (r : Marking) → MarkingIs bytes model answer before after r → Refuses (pairVerdict bytes model answer (length before)) (markRefusal r)
@@ -122,3 +134,20 @@ module _ (bytes : List ℕ) (model answer : ℕ) (before after : List ℕ) where
   mark-exactly (Marking.Marked n) is ok m =
       (λ same. let one = same-mark n m same in rw one at (is .1), λ fits. ap markNumber (mark-unique _ _ n m (is .1) fits))
   mark-exactly (Marking.Refused g) is ok m = absurd (accepted-refused (sym ok ∙ is .0))
+
+  -- Document 02, P2. It answers 4 exactly when the answer is impossible.
+  pub mark-impossible : (r : Marking) → MarkingIs bytes model answer before after r → pairVerdict bytes model answer (length before) ≡ Accepted
+      → (markingNumber r ≡ 4) ↔ (Satisfiable (formulaAt (entryAt bytes) answer) → ⊥)
+  mark-impossible r is ok = mark-exactly r is ok Mark.Impossible
+
+  -- And where the answer is possible, the other four numbers exactly when demand 3 says so.
+  pub mark-possible : (r : Marking) → MarkingIs bytes model answer before after r → pairVerdict bytes model answer (length before) ≡ Accepted
+      → Satisfiable (formulaAt (entryAt bytes) answer) → Stands (formulaAt (entryAt bytes) model) (formulaAt (entryAt bytes) answer) (markingNumber r)
+  mark-possible r is ok sat =
+      let fits = mark-exactly r is ok in
+      record {
+        equal = (λ n. fits Mark.Equal .0 n .1, λ same. fits Mark.Equal .1 (sat, same));
+        narrower = where-so sat (fits Mark.Narrower);
+        wider = where-so sat (fits Mark.Wider);
+        crossing = where-so sat (fits Mark.Crossing);
+      }

@@ -1,4 +1,6 @@
 -- exactly one mark fits
 pub mod Exactly
+-- formulas that are true at the same worlds have the same mark
+pub mod Same
 -- what the engine answers about two entries
 pub mod Question

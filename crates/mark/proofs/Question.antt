@@ -1,38 +1,20 @@
 -- The question that the mark asks about two entries, and what the answer says of their formulas.
-
 use mathlib.Core.Bool.{Bool, true, false}
 use mathlib.Core.List.{List}
-use Prim.Native.Nat.{ℕ, _≤_}
-use native.Mathlib.Nat.{le-trans}
+use Prim.Native.Nat.{ℕ}
 use Rattle.sets.specs.Set.{nothing, added}
 use Rattle.table.specs.declared.entry.Entry.{Entry}
 use Rattle.table.specs.Formulas.{formulaAt}
 use Rattle.semantics.specs.Answer.{Answers}
 use Rattle.tableau.specs.Wants.{Sat}
-use Rattle.decision.specs.Ask.{TableAsked}
-use Rattle.decision.proofs.Question.{only-one, has-one}
+use Rattle.satisfy.specs.Sets.{QuestionAsked}
+use Rattle.decision.proofs.Question.{only-one, has-one, sets-asked}
 use Rattle.mark.specs.Mark.{Beyond}
-use Rattle.mark.specs.Pair.{PairAsked}
+use Rattle.mark.specs.Pair.{PairPrepared}
 
-module _ {bytes : List ℕ} {a b depth words : ℕ} (asked : PairAsked bytes a b depth words) where
-  pub pair-asked : TableAsked bytes (added nothing a) (added nothing b) depth words
-  pair-asked = record {
-    accepted = asked .accepted;
-    below = elim [ true ↦ λ i h. rw (only-one a i h) (asked .first) | false ↦ λ i h. rw (only-one b i h) (asked .second) ];
-    shallow = elim [ true ↦ λ i h. rw (only-one a i h) (asked .first-shallow) | false ↦ λ i h. rw (only-one b i h) (asked .second-shallow) ];
-    enough = asked .enough;
-  }
-
-  -- the other way round
-  pub pair-turned : (more : ℕ) → words ≤ more → PairAsked bytes b a depth more
-  pair-turned more room = record {
-    accepted = asked .accepted;
-    first = asked .second;
-    second = asked .first;
-    first-shallow = asked .second-shallow;
-    second-shallow = asked .first-shallow;
-    enough = le-trans (asked .enough) room;
-  }
+module _ {entry : ℕ → Entry} {n a b depth level : ℕ} {words : List ℕ} (asked : PairPrepared entry n a b depth level words) where
+  pub pair-asked : QuestionAsked entry n (added nothing a) (added nothing b) depth level words
+  pair-asked = sets-asked (asked .ready) _ _ (elim [ true ↦ λ i h. rw (only-one a i h) (asked .first) | false ↦ λ i h. rw (only-one b i h) (asked .second) ])
 
 module _ (entry : ℕ → Entry) (a b : ℕ) where
   pub pair-answer : (r : Bool) → Answers r (Sat entry (added nothing a) (added nothing b)) → Answers r (Beyond (formulaAt entry a) (formulaAt entry b))

@@ -1,5 +1,5 @@
--- The mark of an answer beside a model: how the worlds that make the one true stand to those of the other. The mission's demand 3, and document 01,
--- "Possible, and the mark".
+-- The mark of an answer beside a model: how the worlds that make the one true stand to those of the other. The mission's demand 3, document 01,
+-- "Possible, and the mark", and document 02, P2: an answer that is not possible has a mark of its own.
 use mathlib.Core.Path.{_≡_}
 use mathlib.Core.Bool.{true, false}
 use mathlib.Core.List.{List}
@@ -9,7 +9,7 @@ use Rattle.faults.specs.declared.Verdict.the-variants.{Accepted, Refused}
 use Rattle.faults.specs.Verdict.{numberOf as faultNumber}
 use Rattle.semantics.specs.Formula.{Formula}
 use Rattle.semantics.specs.Structure.{Structure}
-use Rattle.semantics.specs.Truth.{truth}
+use Rattle.semantics.specs.Truth.{truth, Satisfiable}
 use Rattle.table.specs.Entry.{entryAt}
 use Rattle.table.specs.Formulas.{formulaAt}
 use Rattle.decision.specs.Call.{pairWork, pairVerdict, Cleared}
@@ -34,17 +34,19 @@ pub record Beyond (φ ψ : Formula) : Type 0 where
 
 -- the mark fits the model and the answer
 abbrev pub MarkIs : (model answer : Formula) → Mark → Type 0
-MarkIs model answer Mark.Equal = Same model answer
-MarkIs model answer Mark.Narrower = Inside answer model × Beyond model answer
-MarkIs model answer Mark.Wider = Inside model answer × Beyond answer model
-MarkIs model answer Mark.Crossing = Beyond answer model × Beyond model answer
+MarkIs model answer Mark.Equal = Satisfiable answer × Same model answer
+MarkIs model answer Mark.Narrower = Satisfiable answer × Inside answer model × Beyond model answer
+MarkIs model answer Mark.Wider = Satisfiable answer × Inside model answer × Beyond answer model
+MarkIs model answer Mark.Crossing = Satisfiable answer × Beyond answer model × Beyond model answer
+MarkIs model answer Mark.Impossible = Satisfiable answer → ⊥
 
--- document 01's number of each mark
+-- the number of each mark: document 01's, and document 02's 4
 abbrev pub numberOf : Mark → ℕ
 numberOf Mark.Equal = 0
 numberOf Mark.Narrower = 1
 numberOf Mark.Wider = 2
 numberOf Mark.Crossing = 3
+numberOf Mark.Impossible = 4
 
 -- the number that a call returns: of the mark, or of the fault
 abbrev pub markingNumber : Marking → ℕ

@@ -3,28 +3,34 @@ ghost use mathlib.Core.Path.{_≡_};
 ghost use Prim.Native.Nat.{_<_, _≤_};
 ghost use lib.ListN.{length};
 ghost use Rattle.semantics.specs.Formula.{Formula};
+ghost use Rattle.semantics.specs.Truth.{Satisfiable};
 ghost use Rattle.semantics.specs.Answer.{Answers};
 ghost use Rattle.faults.specs.declared.Verdict.the-variants.{Accepted};
 ghost use Rattle.table.specs.Check.{tableVerdict};
 ghost use Rattle.table.specs.Entry.{entryAt, size};
 ghost use Rattle.table.specs.Formulas.{formulaAt};
+ghost use Rattle.wide.specs.Wide.{wideAt};
+ghost use Rattle.decision.specs.Ask.{Prepared, There};
 ghost use Rattle.decision.specs.Call.{pairWork, Cleared};
-ghost use Rattle.mark.specs.Pair.{PairAsked};
+ghost use Rattle.mark.specs.Pair.{PairAsked, PairPrepared};
 ghost use Rattle.mark.specs.Mark.{Beyond, MarkIs, numberOf, markingNumber, MarkingIs};
-use decision::ask::ask;
+use decision::ask::possible;
+use decision::ask::prepare;
 use decision::call::checked;
 use decision::call::clear;
 use decision::call::pair_depth;
 use faults::Fault;
 use faults::Verdict;
+use satisfy::ask::satisfiable;
 use sets::Set;
 
-// In the order of document 01's numbers, from 0.
+// In the order of their numbers, from 0: document 01's four, and document 02's for an answer that is not possible.
 pub enum Mark {
     Equal,
     Narrower,
     Wider,
     Crossing,
+    Impossible,
 }
 
 // A mark, or why the call is refused.
@@ -34,7 +40,7 @@ pub enum Marking {
 }
 
 impl Mark {
-    // The number that document 01 lists for the mark.
+    // The number that documents 01 and 02 list for the mark.
     pub fn number(self) -> u8
         ensures { λ r. ⌜ r ≡ numberOf self ⌝ }
     {
@@ -43,6 +49,20 @@ impl Mark {
             Mark::Narrower => 1,
             Mark::Wider => 2,
             Mark::Crossing => 3,
+            Mark::Impossible => 4,
+        }
+    }
+
+    // Whether the answer that has the mark is possible.
+    pub fn possible(self) -> bool
+        ensures { λ r. ⌜ ((model answer : Formula) → MarkIs model answer self → Answers r (Satisfiable answer)) ⌝ }
+    {
+        match self {
+            Mark::Equal => true,
+            Mark::Narrower => true,
+            Mark::Wider => true,
+            Mark::Crossing => true,
+            Mark::Impossible => false,
         }
     }
 }
@@ -59,19 +79,48 @@ impl Marking {
     }
 }
 
-// Whether some world makes entry e true and the other false, worked in the words, which are W or more.
-fn beyond(table: &[u8], e: usize, other: usize, depth: usize, words: &mut [u64]) -> bool
-    requires { ⌜ PairAsked (now table) e other depth (length (now words)) ⌝ }
-    ensures { λ r. ⌜ Answers r (Beyond (formulaAt (entryAt (now (table .entry))) e) (formulaAt (entryAt (now (table .entry))) other)) ⌝ }
+// Whether some world makes entry e true and the other false. The words are as good for the next question.
+fn beyond(
+    entries: &[u64],
+    e: usize,
+    other: usize,
+    depth: usize,
+    level: usize,
+    words: &mut [u64],
+) -> bool
+    requires { ⌜ PairPrepared (wideAt (now entries)) (length (now entries)) e other depth level (now words) ⌝ }
+    ensures { λ r. ⌜ Answers r (Beyond (formulaAt (wideAt (now (entries .entry))) e) (formulaAt (wideAt (now (entries .entry))) other))
+        × Prepared (wideAt (now (entries .entry))) (length (now (entries .entry))) depth level (now (words .exit)) ⌝ }
 {
     let yes = Set::empty().with(e);
     let no = Set::empty().with(other);
-    ask(table, yes, no, depth, words)
+    satisfiable(entries, yes, no, depth, level, words)
 }
 
-// The mark by whether the model is true somewhere without the answer (lost), and the answer without the model (gained).
-fn mark_of(lost: bool, gained: bool) -> Mark
-    ensures { λ r. ⌜ ((model answer : Formula) → Answers lost (Beyond model answer) → Answers gained (Beyond answer model)
+// Whether the answer is possible. Where it goes beyond the model (gained) it is, and nothing is asked.
+fn answer_possible(
+    entries: &[u64],
+    answer: usize,
+    gained: bool,
+    depth: usize,
+    level: usize,
+    words: &mut [u64],
+) -> bool
+    requires { ⌜ Prepared (wideAt (now entries)) (length (now entries)) depth level (now words)
+        × There (wideAt (now entries)) (length (now entries)) depth answer ⌝ }
+    ensures { λ r. ⌜ ((model : Formula) → Answers gained (Beyond (formulaAt (wideAt (now (entries .entry))) answer) model)
+        → Answers r (Satisfiable (formulaAt (wideAt (now (entries .entry))) answer)))
+        × Prepared (wideAt (now (entries .entry))) (length (now (entries .entry))) depth level (now (words .exit)) ⌝ }
+{
+    if gained {
+        return true;
+    }
+    possible(entries, answer, depth, level, words)
+}
+
+// The mark of a possible answer by whether it goes beyond the model (gained), and the model beyond it (lost).
+fn mark_of(gained: bool, lost: bool) -> Mark
+    ensures { λ r. ⌜ ((model answer : Formula) → Satisfiable answer → Answers gained (Beyond answer model) → Answers lost (Beyond model answer)
         → MarkIs model answer r) ⌝ }
 {
     if lost {
@@ -86,14 +135,35 @@ fn mark_of(lost: bool, gained: bool) -> Mark
     Mark::Equal
 }
 
-// The mark of two entries, worked in the words, which are W or more.
-fn compare(table: &[u8], model: usize, answer: usize, depth: usize, words: &mut [u64]) -> Mark
+// The mark of two entries. Whether the answer is possible is asked before the last question, which an impossible one spares.
+fn compare(
+    entries: &[u64],
+    model: usize,
+    answer: usize,
+    depth: usize,
+    level: usize,
+    words: &mut [u64],
+) -> Mark
+    requires { ⌜ PairPrepared (wideAt (now entries)) (length (now entries)) model answer depth level (now words) ⌝ }
+    ensures { λ r. ⌜ MarkIs (formulaAt (wideAt (now (entries .entry))) model) (formulaAt (wideAt (now (entries .entry))) answer) r ⌝ }
+{
+    let gained = beyond(entries, answer, model, depth, level, words);
+    if !answer_possible(entries, answer, gained, depth, level, words) {
+        return Mark::Impossible;
+    }
+    let lost = beyond(entries, model, answer, depth, level, words);
+    mark_of(gained, lost)
+}
+
+// The mark of two entries of a table, worked in the words, which are W or more.
+fn compared(table: &[u8], model: usize, answer: usize, depth: usize, words: &mut [u64]) -> Mark
     requires { ⌜ PairAsked (now table) model answer depth (length (now words)) ⌝ }
     ensures { λ r. ⌜ MarkIs (formulaAt (entryAt (now (table .entry))) model) (formulaAt (entryAt (now (table .entry))) answer) r ⌝ }
 {
-    let lost = beyond(table, model, answer, depth, words);
-    let gained = beyond(table, answer, model, depth, words);
-    mark_of(lost, gained)
+    let n = table.len() / 4;
+    let level = table::space::work_words(table, 0) / 2;
+    let entries = prepare(table, depth, level, words);
+    compare(&entries[..n], model, answer, depth, level, words)
 }
 
 // The same, and the words worked in are cleared.
@@ -105,7 +175,7 @@ fn marked(table: &[u8], model: usize, answer: usize, words: &mut [u64]) -> Mark
 {
     let depth = pair_depth(table, model, answer);
     let needed = table::space::work_words(table, depth);
-    let found = compare(table, model, answer, depth, &mut words[..needed]);
+    let found = compared(table, model, answer, depth, &mut words[..needed]);
     clear(words, needed);
     found
 }

@@ -1,4 +1,4 @@
-// The mark sheet, run on a fact and its negation beside false: both are impossible, and equal.
+// The mark sheet, run on at least 2 beside not at most 1: equal.
 fn main() {
     sheet::program::run();
 }

@@ -1,4 +1,4 @@
-// A case: calls of `hurnavis::mark`, the answer and every lent word compared with what document 01 gives.
+// A case: calls of `hurnavis::mark`, the answer and every lent word compared with what documents 01 and 02 give.
 use mark::Marking;
 use vectors::description::Description;
 use vectors::entries::Room;
@@ -6,7 +6,7 @@ use vectors::tally::Tally;
 use vectors::words::ONES;
 use vectors::words::compare;
 
-// Document 01's numbers of the marks. A refusal stands 100 above its number, so that it is no mark.
+// The numbers of the marks: document 01's, and document 02's 4. A refusal stands 100 above its number, so that it is no mark.
 pub const EQUAL: u64 = 0;
 
 pub const NARROWER: u64 = 1;
@@ -14,6 +14,8 @@ pub const NARROWER: u64 = 1;
 pub const WIDER: u64 = 2;
 
 pub const CROSSING: u64 = 3;
+
+pub const IMPOSSIBLE: u64 = 4;
 
 const REFUSED: u64 = 100;
 
@@ -87,7 +89,7 @@ fn marks_once(before: Tally, d: Description, of: Entries, depth: usize, expected
     lends(tally, d, of, more, needed, expected)
 }
 
-// The mark with answer and model exchanged.
+// The mark of a possible answer with answer and model exchanged, where the model is possible too.
 fn exchanged(mark: u64) -> u64 {
     if mark == NARROWER {
         return WIDER;
@@ -98,9 +100,21 @@ fn exchanged(mark: u64) -> u64 {
     mark
 }
 
-// A case both ways round.
-pub fn marks(before: Tally, d: Description, of: Entries, depth: usize, expected: u64) -> Tally {
+// A case both ways round, with the mark of each.
+pub fn marks_both(
+    before: Tally,
+    d: Description,
+    of: Entries,
+    depth: usize,
+    expected: u64,
+    turned: u64,
+) -> Tally {
     let tally = marks_once(before, d, of, depth, expected);
     let back = pair(of.answer, of.model);
-    marks_once(tally, d, back, depth, exchanged(expected))
+    marks_once(tally, d, back, depth, turned)
+}
+
+// A case of two possible entries, both ways round.
+pub fn marks(before: Tally, d: Description, of: Entries, depth: usize, expected: u64) -> Tally {
+    marks_both(before, d, of, depth, expected, exchanged(expected))
 }

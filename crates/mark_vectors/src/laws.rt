@@ -1,11 +1,14 @@
 // Descriptions that say the same in other words, and some that say a little more.
 use crate::case::CROSSING;
 use crate::case::EQUAL;
+use crate::case::IMPOSSIBLE;
 use crate::case::NARROWER;
 use crate::case::WIDER;
 use crate::case::marks;
+use crate::case::marks_both;
 use crate::case::pair;
 use vectors::description::Description;
+use vectors::entries::FALSE;
 use vectors::entries::TRUE;
 use vectors::entries::and;
 use vectors::entries::at_least;
@@ -148,10 +151,18 @@ fn two_chains(second: u32) -> Description {
     d
 }
 
-// Chains of depth 31 over the same, over p and not p, and over p and p.
+// Chains of depth 31 over the same, over p and not p, over p and p, and over p and false.
 pub fn deep(before: Tally) -> Tally {
     let mut tally = before.subject(10000);
     tally = marks(tally, two_chains(fact(1)), pair(62, 63), 31, EQUAL);
     tally = marks(tally, two_chains(not(0)), pair(62, 63), 31, CROSSING);
-    marks(tally, two_chains(and(0, 0)), pair(62, 63), 31, EQUAL)
+    tally = marks(tally, two_chains(and(0, 0)), pair(62, 63), 31, EQUAL);
+    marks_both(
+        tally,
+        two_chains(FALSE),
+        pair(62, 63),
+        31,
+        IMPOSSIBLE,
+        WIDER,
+    )
 }

@@ -13,6 +13,7 @@ fn main() {
     tally = steps::example(tally);
     tally = steps::facts(tally);
     tally = steps::impossible(tally);
+    tally = steps::impossible_counts(tally);
     tally = steps::grades(tally);
     tally = steps::relations(tally);
     tally = laws::connectives(tally);

@@ -1,9 +1,11 @@
 // Each mark, by facts, grades and relations.
 use crate::case::CROSSING;
 use crate::case::EQUAL;
+use crate::case::IMPOSSIBLE;
 use crate::case::NARROWER;
 use crate::case::WIDER;
 use crate::case::marks;
+use crate::case::marks_both;
 use crate::case::pair;
 use vectors::description::Description;
 use vectors::entries::FALSE;
@@ -39,16 +41,40 @@ pub fn facts(before: Tally) -> Tally {
     marks(tally, d, pair(3, 4), 0, CROSSING)
 }
 
-// An impossible answer beside a possible model is narrower; beside an impossible one it is equal.
+// An impossible answer has a mark of its own, also beside an impossible model; a possible one beside an impossible model is
+// wider.
 pub fn impossible(before: Tally) -> Tally {
     let d = Description::of(&[TRUE, FALSE, fact(1), not(2), and(2, 3), or(2, 3)]);
     let mut tally = before.subject(3000);
-    tally = marks(tally, d, pair(2, 1), 0, NARROWER);
-    tally = marks(tally, d, pair(2, 4), 0, NARROWER);
-    tally = marks(tally, d, pair(1, 4), 0, EQUAL);
+    tally = marks_both(tally, d, pair(2, 1), 0, IMPOSSIBLE, WIDER);
+    tally = marks_both(tally, d, pair(2, 4), 0, IMPOSSIBLE, WIDER);
+    tally = marks_both(tally, d, pair(0, 1), 0, IMPOSSIBLE, WIDER);
+    tally = marks_both(tally, d, pair(1, 4), 0, IMPOSSIBLE, IMPOSSIBLE);
+    tally = marks_both(tally, d, pair(4, 4), 0, IMPOSSIBLE, IMPOSSIBLE);
     tally = marks(tally, d, pair(0, 5), 0, EQUAL);
-    tally = marks(tally, d, pair(0, 1), 0, NARROWER);
     marks(tally, d, pair(5, 2), 0, NARROWER)
+}
+
+// The same by counts: 2 and at most 1 of p at once, at the world or at one that it is linked to.
+pub fn impossible_counts(before: Tally) -> Tally {
+    let d = Description::of(
+        &[
+            fact(1),
+            at_least(2, 7, 0),
+            at_most(1, 7, 0),
+            and(1, 2),
+            at_least(1, 7, 3),
+            at_most(0, 7, 3),
+            at_most(0, 8, 0),
+        ],
+    );
+    let mut tally = before.subject(12000);
+    tally = marks_both(tally, d, pair(1, 3), 1, IMPOSSIBLE, WIDER);
+    tally = marks_both(tally, d, pair(6, 3), 1, IMPOSSIBLE, WIDER);
+    tally = marks_both(tally, d, pair(2, 4), 2, IMPOSSIBLE, WIDER);
+    tally = marks_both(tally, d, pair(5, 4), 2, IMPOSSIBLE, WIDER);
+    tally = marks_both(tally, d, pair(3, 4), 2, IMPOSSIBLE, IMPOSSIBLE);
+    marks(tally, d, pair(5, 6), 2, NARROWER)
 }
 
 // At least 0 says nothing, at most 255 something, not at most 255 is at least 256.

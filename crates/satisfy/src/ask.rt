@@ -4,6 +4,7 @@ ghost use Rattle.sets.specs.Set.{member};
 ghost use Rattle.wide.specs.Wide.{wideAt};
 ghost use Rattle.semantics.specs.Answer.{Answers};
 ghost use Rattle.tableau.specs.Wants.{Sat};
+ghost use Rattle.cases.specs.Levels.{Remembers};
 ghost use Rattle.satisfy.specs.Sets.{SetAsked, TakenIs, SetsAsked, SettlingIs, QuestionAsked};
 use crate::world::ALL;
 use crate::world::world;
@@ -48,7 +49,7 @@ fn settle(entries: &[u64], yes: Set, no: Set, depth: usize) -> Outcome
     }
 }
 
-// Whether some world makes every entry of one set true and every entry of the other false.
+// Whether some world makes every entry of one set true and every entry of the other false. What is remembered stays right.
 pub fn satisfiable(
     entries: &[u64],
     yes: Set,
@@ -58,7 +59,8 @@ pub fn satisfiable(
     work: &mut [u64],
 ) -> bool
     requires { ⌜ QuestionAsked (wideAt (now entries)) (length (now entries)) (member yes) (member no) depth level (now work) ⌝ }
-    ensures { λ r. ⌜ Answers r (Sat (wideAt (now (entries .entry))) (member yes) (member no)) ⌝ }
+    ensures { λ r. ⌜ Answers r (Sat (wideAt (now (entries .entry))) (member yes) (member no))
+        × Remembers (wideAt (now (entries .entry))) depth level (now (work .exit)) ⌝ }
 {
     match settle(entries, yes, no, depth) {
         Outcome::Settled(v) => world(entries, v, ALL, depth, level, work),

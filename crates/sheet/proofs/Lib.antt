@@ -1,4 +1,4 @@
--- a mark call that is accepted leaves both decisions their words
+-- a mark call that is accepted leaves the decision of the model its words
 pub mod Words
 -- the parts of an input
 pub mod Parts

@@ -71,8 +71,7 @@ fn fill(table: &[u8], model: usize, answer: usize) -> Sheet
         return refusal(marking);
     };
     let model_possible = possible(table, model, &mut words);
-    let answer_possible = possible(table, answer, &mut words);
-    Sheet::Filled(model_possible, answer_possible, mark)
+    Sheet::Filled(model_possible, mark.possible(), mark)
 }
 
 // The sheet for an input.

@@ -220,15 +220,17 @@ fn the_mark_sheet() {
     assert_eq!(marked(&t, p, two), Mark::Crossing);
 }
 
+/// Document 02, P2: also beside an impossible model.
 #[test]
-fn an_impossible_answer_is_narrower() {
+fn an_impossible_answer_has_a_mark_of_its_own() {
     let mut t = Writer::new();
     let p = t.fact(1);
     let no = t.falsity();
     let none = t.at_least(1, R, no);
-    assert_eq!(marked(&t, p, none), Mark::Narrower);
+    assert_eq!(marked(&t, p, none), Mark::Impossible);
     assert_eq!(marked(&t, none, p), Mark::Wider);
-    assert_eq!(marked(&t, no, none), Mark::Equal);
+    assert_eq!(marked(&t, no, none), Mark::Impossible);
+    assert_eq!(marked(&t, none, none), Mark::Impossible);
 }
 
 /// The package's writers beside the packing that is written here a second time.

@@ -131,7 +131,7 @@ pub fn decide(table: &[u8], entry: usize, words: &mut [u64]) -> Result<bool, Fau
     Ok(possible == 1)
 }
 
-/// How the answer's entry stands to the model's. The words are as for [`decide`].
+/// How the answer's entry stands to the model's, or that the answer is impossible. The words are as for [`decide`].
 ///
 /// ```
 /// use hurnavis::{mark, work_words, Fault, Mark, Writer};
@@ -140,6 +140,7 @@ pub fn decide(table: &[u8], entry: usize, words: &mut [u64]) -> Result<bool, Fau
 /// let p = table.fact(1);
 /// let q = table.fact(2);
 /// let both = table.and(p, q);
+/// let never = table.falsity();
 /// let table = table.bytes();
 ///
 /// let mut words = vec![0; work_words(&table, p, both)?];
@@ -147,7 +148,9 @@ pub fn decide(table: &[u8], entry: usize, words: &mut [u64]) -> Result<bool, Fau
 /// assert_eq!(mark(&table, both, p, &mut words), Ok(Mark::Wider));
 /// assert_eq!(mark(&table, p, q, &mut words), Ok(Mark::Crossing));
 /// assert_eq!(mark(&table, p, p, &mut words), Ok(Mark::Equal));
-/// assert_eq!(mark(&table, p, 3, &mut words), Err(Fault::EntryNumber));
+/// assert_eq!(mark(&table, p, never, &mut words), Ok(Mark::Impossible));
+/// assert_eq!(mark(&table, never, never, &mut words), Ok(Mark::Impossible));
+/// assert_eq!(mark(&table, p, 4, &mut words), Err(Fault::EntryNumber));
 /// # Ok::<(), hurnavis::Fault>(())
 /// ```
 pub fn mark(table: &[u8], model: usize, answer: usize, words: &mut [u64]) -> Result<Mark, Fault> {

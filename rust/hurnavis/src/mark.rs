@@ -1,19 +1,20 @@
-//! The four marks.
+//! The five marks.
 
 use std::fmt;
 
-/// How an answer stands to its model. Later calls add marks.
+/// How an answer that holds somewhere stands to its model, or that the answer holds nowhere.
 ///
 /// ```
 /// use hurnavis::Mark;
 ///
 /// assert_eq!(Mark::Narrower.number(), 1);
 /// assert_eq!(Mark::Narrower.to_string(), "narrower");
+/// assert_eq!(Mark::Impossible.number(), 4);
 /// ```
 #[derive(Clone, Copy, Debug, PartialEq, Eq, Hash)]
 #[non_exhaustive]
 pub enum Mark {
-    /// They hold at the same worlds of every finite structure.
+    /// They hold at the same worlds of every finite structure, and there are such worlds.
     Equal = 0,
     /// The answer never holds without the model, the model somewhere without the answer.
     Narrower = 1,
@@ -21,6 +22,8 @@ pub enum Mark {
     Wider = 2,
     /// Each holds somewhere without the other.
     Crossing = 3,
+    /// The answer holds at no world of any finite structure, whatever the model is.
+    Impossible = 4,
 }
 
 impl Mark {
@@ -32,9 +35,15 @@ impl Mark {
 
     /// The mark with this number, if there is one.
     pub(crate) fn from_number(number: u8) -> Option<Mark> {
-        [Mark::Equal, Mark::Narrower, Mark::Wider, Mark::Crossing]
-            .into_iter()
-            .find(|m| m.number() == number)
+        [
+            Mark::Equal,
+            Mark::Narrower,
+            Mark::Wider,
+            Mark::Crossing,
+            Mark::Impossible,
+        ]
+        .into_iter()
+        .find(|m| m.number() == number)
     }
 }
 
@@ -45,6 +54,7 @@ impl fmt::Display for Mark {
             Mark::Narrower => "narrower",
             Mark::Wider => "wider",
             Mark::Crossing => "crossing",
+            Mark::Impossible => "impossible",
         })
     }
 }

@@ -84,7 +84,7 @@ pub fn decide(table: &[u8], entry: usize, words: &mut [u64], possible: &mut u8) 
     }
 }
 
-/// 0 with the mark's number in `mark`: 0 equal, 1 narrower, 2 wider, 3 crossing.
+/// 0 with the mark's number in `mark`: 0 equal, 1 narrower, 2 wider, 3 crossing, 4 impossible.
 #[must_use]
 pub fn mark(table: &[u8], model: usize, answer: usize, words: &mut [u64], mark: &mut u8) -> u32 {
     unsafe {

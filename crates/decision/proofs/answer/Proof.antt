@@ -29,24 +29,24 @@ work-words-requires c κs =
 needed : (c : tie.After-work-words) → c .work-words .result ≡ entryWork (c .before .before .before .before .args .table .now) (c .before .before .before .before .args .e)
 needed c = c .work-words .ensures ∙ ap (tableWork (c .before .before .before .before .args .table .now)) (depth-is (c .before))
 
-slice-relend-prefix-possible : tie.Need-slice-relend-prefix-possible
-slice-relend-prefix-possible c = let (ok, inside, enough) = c .before .before .before .before .pre in rw (needed c) enough
+slice-relend-prefix-decided : tie.Need-slice-relend-prefix-decided
+slice-relend-prefix-decided c = let (ok, inside, enough) = c .before .before .before .before .pre in rw (needed c) enough
 
-slice-aggregate-possible : tie.Need-slice-aggregate-possible
-slice-aggregate-possible c = sym (length-take-le _ (c .before .before .before .before .before .args .words .now) (slice-relend-prefix-possible (c .before)))
+slice-aggregate-decided : tie.Need-slice-aggregate-decided
+slice-aggregate-decided c = sym (length-take-le _ (c .before .before .before .before .before .args .words .now) (slice-relend-prefix-decided (c .before)))
 
-possible-requires : tie.Need-possible-requires
-possible-requires c κs =
+decided-requires : tie.Need-decided-requires
+decided-requires c κs =
     let (ok, inside, enough) = c .before .before .before .before .before .pre in
-    (ok, inside, sym (depth-is (c .before .before)), omega (arith, c .before .work-words .ensures, slice-aggregate-possible c))
+    (ok, inside, sym (depth-is (c .before .before)), omega (arith, c .before .work-words .ensures, slice-aggregate-decided c))
 
 clear-requires : tie.Need-clear-requires
 clear-requires c κs =
-    omega (arith, slice-relend-prefix-possible (c .before .before .before .before .before), length-front (c .before .before .before .before .before .before .before .before .before .args .words .now) (c .before .before .before .possible .last .1 .1 .1 .0) (c .before .before .before .before .before .work-words .result) (c .before .before .before .possible .kept .1 .1 .1 .0))
+    omega (arith, slice-relend-prefix-decided (c .before .before .before .before .before), length-front (c .before .before .before .before .before .before .before .before .before .args .words .now) (c .before .before .before .decided .last .1 .1 .1 .0) (c .before .before .before .before .before .work-words .result) (c .before .before .before .decided .kept .1 .1 .1 .0))
 
 returns : tie.Need-returns
 returns c =
-    (c .before .before .before .before .before .before .possible .ensures, rw (sym (needed (c .before .before .before .before .before .before .before .before))) (cleared-over (c .before .before .before .before .before .before .before .before .work-words .result) (c .before .before .before .before .before .before .possible .last .1 .1 .1 .0) (c .before .before .before .before .before .before .before .before .before .before .before .before .args .words .now) (c .before .before .before .before .before .before .possible .kept .1 .1 .1 .0) (slice-relend-prefix-possible (c .before .before .before .before .before .before .before .before)) (c .before .before .clear .ensures)))
+    (c .before .before .before .before .before .before .decided .ensures, rw (sym (needed (c .before .before .before .before .before .before .before .before))) (cleared-over (c .before .before .before .before .before .before .before .before .work-words .result) (c .before .before .before .before .before .before .decided .last .1 .1 .1 .0) (c .before .before .before .before .before .before .before .before .before .before .before .before .args .words .now) (c .before .before .before .before .before .before .decided .kept .1 .1 .1 .0) (slice-relend-prefix-decided (c .before .before .before .before .before .before .before .before)) (c .before .before .clear .ensures)))
 
 pub answer-spec : {M : Type 1} → statement M
 answer-spec =
@@ -54,9 +54,9 @@ answer-spec =
     (tie.spec
     pair-depth-requires
     work-words-requires
-    slice-relend-prefix-possible
-    slice-aggregate-possible
-    possible-requires
+    slice-relend-prefix-decided
+    slice-aggregate-decided
+    decided-requires
     clear-requires
     (λ c. search needs)
     returns)

@@ -5,16 +5,16 @@ use Prim.Native.Nat.{ℕ}
 use native.Mathlib.Omega.{arith}
 use borrow.Author.Needs.{needs}
 use Rattle.sets.specs.Set.{member, nothing, added}
-use Rattle.table.proofs.Accepted.{accepted-small}
+use Rattle.decision.proofs.Question.{next-prepared}
 use Rattle.mark.proofs.Question.{pair-asked, pair-answer}
 use Rattle.mark.proofs.beyond.Statement.{statement}
 use Rattle.mark.proofs.beyond.Tie as tie
 
 with-requires : tie.Need-with-requires
-with-requires c κs = let asked = c .before .before .before .pre in omega (arith, accepted-small _ (asked .accepted), asked .first)
+with-requires c κs = let asked = c .before .before .before .pre in omega (arith, asked .ready .few, asked .first .0)
 
 with-requires-2 : tie.Need-with-requires-2
-with-requires-2 c κs = let asked = c .before .before .before .before .before .pre in omega (arith, accepted-small _ (asked .accepted), asked .second)
+with-requires-2 c κs = let asked = c .before .before .before .before .before .pre in omega (arith, asked .ready .few, asked .second .0)
 
 -- the sets of one entry each
 first : (c : tie.After-with) → member (c .with .result) ≡ added nothing (c .before .before .before .before .args .e)
@@ -23,13 +23,16 @@ first c = c .with .ensures ∙ ap (λ (p : ℕ → Bool). added p (c .before .be
 second : (c : tie.After-with2) → member (c .with2 .result) ≡ added nothing (c .before .before .before .before .before .before .args .other)
 second c = c .with2 .ensures ∙ ap (λ (p : ℕ → Bool). added p (c .before .before .before .before .before .before .args .other)) (c .before .empty2 .ensures)
 
-ask-requires : tie.Need-ask-requires
-ask-requires c κs = rw (first (c .before .before .before), second (c .before)) (pair-asked (c .before .before .before .before .before .before .before .pre))
+satisfiable-requires : tie.Need-satisfiable-requires
+satisfiable-requires c κs = rw (first (c .before .before .before), second (c .before)) (pair-asked (c .before .before .before .before .before .before .before .pre))
 
 returns : tie.Need-returns
 returns c =
-    pair-answer _ _ _ (c .before .before .ask .result)
-    (rw (first (c .before .before .before .before .before .before), second (c .before .before .before .before)) at (c .before .before .ask .ensures))
+    let (answer, memory) = c .before .before .satisfiable .ensures in (
+      pair-answer _ _ _ (c .before .before .satisfiable .result)
+          (rw (first (c .before .before .before .before .before .before), second (c .before .before .before .before)) at answer),
+      next-prepared (c .before .before .before .before .before .before .before .before .before .before .pre .ready) (c .before .before .satisfiable .kept .1 .1 .1 .1 .1 .0) memory,
+    )
 
 pub beyond-spec : {M : Type 1} → statement M
 beyond-spec =
@@ -39,6 +42,6 @@ beyond-spec =
     with-requires
     (λ c κs. search needs)
     with-requires-2
-    ask-requires
+    satisfiable-requires
     (λ c. search needs)
     returns)

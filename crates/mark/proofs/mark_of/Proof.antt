@@ -4,16 +4,16 @@ use Rattle.mark.proofs.mark_of.Statement.{statement}
 use Rattle.mark.proofs.mark_of.Tie as tie
 
 returns : tie.Need-returns
-returns c model answer = rw (c .before .if1 .taken, c .if2 .taken) (λ lost gained. (gained, lost))
+returns c model answer sat = rw (c .before .if1 .taken, c .if2 .taken) (λ gained lost. (sat, gained, lost))
 
 returns-2 : tie.Need-returns-2
-returns-2 c model answer = rw (c .before .if1 .taken, c .if2 .left) (λ lost none. (inside-of none, lost))
+returns-2 c model answer sat = rw (c .before .if1 .taken, c .if2 .left) (λ none lost. (sat, inside-of none, lost))
 
 returns-3 : tie.Need-returns-3
-returns-3 c model answer = rw (c .before .if1 .left, c .if3 .taken) (λ none gained. (inside-of none, gained))
+returns-3 c model answer sat = rw (c .before .if1 .left, c .if3 .taken) (λ gained none. (sat, inside-of none, gained))
 
 returns-4 : tie.Need-returns-4
-returns-4 c model answer = rw (c .before .if1 .left, c .if3 .left) (λ one other. same-of one other)
+returns-4 c model answer sat = rw (c .before .if1 .left, c .if3 .left) (λ one other. (sat, same-of other one))
 
 pub mark-of-spec : {M : Type 1} → statement M
 mark-of-spec = tie.close (tie.spec returns returns-2 returns-3 returns-4)

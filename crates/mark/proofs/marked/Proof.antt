@@ -25,14 +25,14 @@ needed : (c : tie.After-work-words)
     → c .work-words .result ≡ pairWork (c .before .before .before .before .args .table .now) (c .before .before .before .before .args .model) (c .before .before .before .before .args .answer)
 needed c = c .work-words .ensures ∙ ap (tableWork (c .before .before .before .before .args .table .now)) (c .before .pair-depth .ensures)
 
-slice-relend-prefix-compare : tie.Need-slice-relend-prefix-compare
-slice-relend-prefix-compare c = let (ok, model, answer, enough) = c .before .before .before .before .pre in rw (needed c) enough
+slice-relend-prefix-compared : tie.Need-slice-relend-prefix-compared
+slice-relend-prefix-compared c = let (ok, model, answer, enough) = c .before .before .before .before .pre in rw (needed c) enough
 
-slice-aggregate-compare : tie.Need-slice-aggregate-compare
-slice-aggregate-compare c = sym (length-take-le _ (c .before .before .before .before .before .args .words .now) (slice-relend-prefix-compare (c .before)))
+slice-aggregate-compared : tie.Need-slice-aggregate-compared
+slice-aggregate-compared c = sym (length-take-le _ (c .before .before .before .before .before .args .words .now) (slice-relend-prefix-compared (c .before)))
 
-compare-requires : tie.Need-compare-requires
-compare-requires c κs =
+compared-requires : tie.Need-compared-requires
+compared-requires c κs =
     let (ok, model, answer, enough) = c .before .before .before .before .before .pre in
     record {
       accepted = ok;
@@ -40,16 +40,16 @@ compare-requires c κs =
       second = answer;
       first-shallow = rw (c .before .before .pair-depth .ensures) (le-max-left _ _);
       second-shallow = rw (c .before .before .pair-depth .ensures) (le-max-right _ _);
-      enough = omega (arith, c .before .work-words .ensures, slice-aggregate-compare c);
+      enough = omega (arith, c .before .work-words .ensures, slice-aggregate-compared c);
     }
 
 clear-requires : tie.Need-clear-requires
 clear-requires c κs =
-    omega (arith, slice-relend-prefix-compare (c .before .before .before .before .before), length-front (c .before .before .before .before .before .before .before .before .before .args .words .now) (c .before .before .before .compare .last .1 .1 .1 .1 .0) (c .before .before .before .before .before .work-words .result) (c .before .before .before .compare .kept .1 .1 .1 .1 .0))
+    omega (arith, slice-relend-prefix-compared (c .before .before .before .before .before), length-front (c .before .before .before .before .before .before .before .before .before .args .words .now) (c .before .before .before .compared .last .1 .1 .1 .1 .0) (c .before .before .before .before .before .work-words .result) (c .before .before .before .compared .kept .1 .1 .1 .1 .0))
 
 returns : tie.Need-returns
 returns c =
-    (c .before .before .before .before .before .before .compare .ensures, rw (sym (needed (c .before .before .before .before .before .before .before .before))) (cleared-over (c .before .before .before .before .before .before .before .before .work-words .result) (c .before .before .before .before .before .before .compare .last .1 .1 .1 .1 .0) (c .before .before .before .before .before .before .before .before .before .before .before .before .args .words .now) (c .before .before .before .before .before .before .compare .kept .1 .1 .1 .1 .0) (slice-relend-prefix-compare (c .before .before .before .before .before .before .before .before)) (c .before .before .clear .ensures)))
+    (c .before .before .before .before .before .before .compared .ensures, rw (sym (needed (c .before .before .before .before .before .before .before .before))) (cleared-over (c .before .before .before .before .before .before .before .before .work-words .result) (c .before .before .before .before .before .before .compared .last .1 .1 .1 .1 .0) (c .before .before .before .before .before .before .before .before .before .before .before .before .args .words .now) (c .before .before .before .before .before .before .compared .kept .1 .1 .1 .1 .0) (slice-relend-prefix-compared (c .before .before .before .before .before .before .before .before)) (c .before .before .clear .ensures)))
 
 pub marked-spec : {M : Type 1} → statement M
 marked-spec =
@@ -57,9 +57,9 @@ marked-spec =
     (tie.spec
     pair-depth-requires
     work-words-requires
-    slice-relend-prefix-compare
-    slice-aggregate-compare
-    compare-requires
+    slice-relend-prefix-compared
+    slice-aggregate-compared
+    compared-requires
     clear-requires
     (λ c. search needs)
     returns)

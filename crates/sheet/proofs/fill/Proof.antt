@@ -1,10 +1,10 @@
--- `fill` meets its contract: where the mark is refused, so is the sheet; else both decisions have their words.
+-- `fill` meets its contract: where the mark is refused, so is the sheet; else the decision of the model has its words, and the mark tells of the answer.
 use mathlib.Core.Path.{_≡_, ap, _∙_}
 use borrow.Author.Needs.{needs}
 use Rattle.faults.specs.declared.Verdict.the-variants.{Accepted}
 use Rattle.decision.specs.Call.{pairVerdict}
 use Rattle.decision.specs.Decide.{decideVerdict}
-use Rattle.sheet.proofs.Words.{first-accepted, second-accepted}
+use Rattle.sheet.proofs.Words.{model-accepted}
 use Rattle.sheet.proofs.fill.Statement.{statement}
 use Rattle.sheet.proofs.fill.Tie as tie
 
@@ -26,18 +26,12 @@ fine c = (rw (c .marking .given .1) at (c .before .before .before .mark .ensures
 possible-requires : tie.Need-possible-requires
 possible-requires c κs =
     let a = c .before .before .before .before .before .before .before .before .args in
-    ap (decideVerdict (a .table .now) (a .model)) (c .before .before .before .before .before .mark .kept .1 .1 .1 .0) ∙ first-accepted (a .table .now) (a .model) (a .answer) 8192 (fine (c .before .before))
-
-possible-requires-2 : tie.Need-possible-requires-2
-possible-requires-2 c κs =
-    let a = c .before .before .before .before .before .before .before .before .before .before .before .args in
-    ap (decideVerdict (a .table .now) (a .answer)) (c .before .before .possible .kept .1 .1 .0 ∙ c .before .before .before .before .before .before .before .before .mark .kept .1 .1 .1 .0)
-    ∙ second-accepted (a .table .now) (a .model) (a .answer) 8192 (fine (c .before .before .before .before .before))
+    ap (decideVerdict (a .table .now) (a .model)) (c .before .before .before .before .before .mark .kept .1 .1 .1 .0) ∙ model-accepted (a .table .now) (a .model) (a .answer) 8192 (fine (c .before .before))
 
 returns-2 : tie.Need-returns-2
 returns-2 c =
-    let told = rw (c .before .before .before .before .before .before .before .marking .given .1) at (c .before .before .before .before .before .before .before .before .before .before .mark .ensures) in
-    (told .0, c .before .before .before .before .possible .ensures, c .before .possible2 .ensures, told .1)
+    let told = rw (c .before .before .before .before .before .marking .given .1) at (c .before .before .before .before .before .before .before .before .mark .ensures) in
+    (told .0, c .before .before .possible .ensures, c .possible2 .ensures _ _ (told .1), told .1)
 
 pub fill-spec : {M : Type 1} → statement M
 fill-spec =
@@ -51,6 +45,5 @@ fill-spec =
     returns
     (λ c. search needs)
     possible-requires
-    (λ c. search needs)
-    possible-requires-2
+    (λ c κs. search needs)
     returns-2)

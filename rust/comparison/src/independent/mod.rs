@@ -1,4 +1,4 @@
-//! The same calls once more, written from documents 01 and 001 alone, by another method, to compare the library with.
+//! The same calls once more, written from documents 01, 02 and 001 alone, by another method, to compare the library with.
 //!
 //! - [`refusals`]: document 01's refusals in their order.
 //! - [`truth`]: definition 2.1 on drawn structures.
@@ -71,6 +71,10 @@ pub fn satisfiable(entries: &[Entry], entry: usize, limits: Limits) -> Option<bo
 pub fn compared(entries: &[Entry], model: usize, answer: usize, limits: Limits) -> Option<Mark> {
     let mut realisable = Realisable::new(entries, limits);
     let pairs = realisable.pairs(model, answer)?;
+    let answer_holds = pairs.iter().any(|(_, answer)| *answer);
+    if !answer_holds {
+        return Some(Mark::Impossible);
+    }
     let model_alone = pairs.contains(&(true, false));
     let answer_alone = pairs.contains(&(false, true));
     Some(match (model_alone, answer_alone) {

@@ -21,10 +21,12 @@ world-requires : tie.Need-world-requires
 world-requires c κs = let start = c .before .before .before .before .before .before .before in record { ready = settled (c .before .before) .ready; small = omega arith; room = start .pre .room; memory = start .pre .memory }
 
 returns : tie.Need-returns
-returns c = settling-answer (settled (c .before .before .before .before .before)) (c .before .before .world .result) (c .before .before .world .ensures .0)
+returns c =
+    let (answer, memory) = c .before .before .world .ensures in
+    (settling-answer (settled (c .before .before .before .before .before)) (c .before .before .world .result) answer, memory)
 
 returns-2 : tie.Need-returns-2
-returns-2 c = rw (c .enum-told .given .1) at (c .before .before .settle .ensures)
+returns-2 c = (rw (c .enum-told .given .1) at (c .before .before .settle .ensures), c .before .before .before .before .before .pre .memory)
 
 pub satisfiable-spec : {M : Type 1} → statement M
 satisfiable-spec =

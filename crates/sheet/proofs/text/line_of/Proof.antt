@@ -1,4 +1,4 @@
--- `line_of` meets its contract: the numbers of document 01 are one digit each, or 10.
+-- `line_of` meets its contract: the numbers of the documents are one digit each, or 10.
 use mathlib.Core.Bool.{Bool, true, false}
 use Prim.Native.Nat.{_<_}
 use native.Mathlib.Omega.{arith}
@@ -18,6 +18,7 @@ mark-small Mark.Equal = omega arith
 mark-small Mark.Narrower = omega arith
 mark-small Mark.Wider = omega arith
 mark-small Mark.Crossing = omega arith
+mark-small Mark.Impossible = omega arith
 
 filled-requires : tie.Need-filled-requires
 filled-requires c κs =

@@ -1,4 +1,4 @@
-//! Runs each call on an input and compares everything that document 01 says about it.
+//! Runs each call on an input and compares everything that documents 01 and 02 say about it.
 
 use crate::input::{needed, Input};
 use crate::outcome::{
@@ -108,7 +108,7 @@ fn mark(input: &Input, random: &mut Xorshift, tally: &mut Tally) -> Result<Optio
     tally.mark.note(outcome.map(Some));
     let expected = independent::mark(&input.table, model, answer, words.len(), Limits::SMALL);
     let expected = expected.map(|known| known.map(number));
-    answered("mark", outcome, expected, 3, tally)?;
+    answered("mark", outcome, expected, 4, tally)?;
     let needed = needed(&input.table, &[model, answer]);
     worked("mark", outcome, needed, &before, &words)?;
     Ok(outcome.ok())
@@ -118,8 +118,8 @@ fn number(mark: Mark) -> u64 {
     mark.number().into()
 }
 
-/// The mark from two decisions, "model and not answer" and "answer and not model", written behind the table. It tries
-/// the decision on entries of which many are unsatisfiable.
+/// The mark from three decisions: "answer", and "model and not answer" and "answer and not model", written behind the
+/// table. It tries the decision on entries of which many are unsatisfiable.
 fn mark_by_decisions(
     entries: &[Entry],
     input: &Input,
@@ -139,11 +139,14 @@ fn mark_by_decisions(
         possible.map_err(|fault| format!("decide on a longer table: {fault}"))
     };
     let (model_alone, answer_alone) = (decided(count + 1)?, decided(count + 3)?);
-    let mark = u64::from(model_alone) + 2 * u64::from(answer_alone);
+    let mark = match decided(input.answer)? {
+        true => u64::from(model_alone) + 2 * u64::from(answer_alone),
+        false => number(Mark::Impossible),
+    };
     tally.by_decisions.note(Ok(Some(mark)));
     let expected = independent::compared(entries, input.model, input.answer, Limits::SMALL);
     let expected = expected.map(number);
-    answered("mark by decisions", Ok(mark), Ok(expected), 3, tally)?;
+    answered("mark by decisions", Ok(mark), Ok(expected), 4, tally)?;
     Ok(Some(mark))
 }
 
@@ -181,9 +184,13 @@ fn tried(
     let answer_alone = seen.separated(input.answer, input.model);
     tally.seen_apart += (model_alone || answer_alone) as usize;
     for mark in marks.iter().flatten() {
-        // Bit 0 says that the model holds somewhere alone, bit 1 that the answer does.
-        if model_alone && mark & 1 == 0 || answer_alone && mark & 2 == 0 {
-            return Err(format!("a structure separates what is marked {mark}"));
+        let contradicted = match mark {
+            4 => seen.holds(input.answer),
+            // Bit 0 says that the model holds somewhere alone, bit 1 that the answer does.
+            _ => model_alone && mark & 1 == 0 || answer_alone && mark & 2 == 0,
+        };
+        if contradicted {
+            return Err(format!("a structure contradicts the mark {mark}"));
         }
     }
     Ok(())

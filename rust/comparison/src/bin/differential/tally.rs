@@ -88,7 +88,7 @@ impl Tally {
         self.board.print("board");
         self.decide.print("decide");
         self.mark.print("mark");
-        self.by_decisions.print("mark by two decisions");
+        self.by_decisions.print("mark by three decisions");
         let answers = self.compared + self.given_up;
         let share = 100.0 * self.given_up as f64 / answers.max(1) as f64;
         println!(
