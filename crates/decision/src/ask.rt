@@ -25,7 +25,7 @@ pub fn prepare(table: &[u8], depth: usize, level: usize, words: &mut [u64]) -> [
     entries
 }
 
-// Whether entry e is possible. The words are as good for the next question.
+// Whether entry e is possible. What the words remember then helps the next question.
 pub fn possible(entries: &[u64], e: usize, depth: usize, level: usize, words: &mut [u64]) -> bool
     requires { ⌜ Prepared (wideAt (now entries)) (length (now entries)) depth level (now words)
         × There (wideAt (now entries)) (length (now entries)) depth e ⌝ }

@@ -68,7 +68,7 @@ impl Mark {
 }
 
 impl Marking {
-    // The number that the call returns by document 01: that of the mark, or of the fault.
+    // The number that the call returns: that of the mark, or of the fault.
     pub fn number(self) -> u8
         ensures { λ r. ⌜ r ≡ markingNumber self ⌝ }
     {
@@ -79,7 +79,7 @@ impl Marking {
     }
 }
 
-// Whether some world makes entry e true and the other false. The words are as good for the next question.
+// Whether some world makes entry e true and the other false. What the words remember then helps the next question.
 fn beyond(
     entries: &[u64],
     e: usize,
@@ -135,7 +135,7 @@ fn mark_of(gained: bool, lost: bool) -> Mark
     Mark::Equal
 }
 
-// The mark of two entries. Whether the answer is possible is asked before the last question, which an impossible one spares.
+// The mark of two entries. The last question is not asked where the answer is impossible.
 fn compare(
     entries: &[u64],
     model: usize,

@@ -41,7 +41,11 @@ fn decided(name: &str, grade: u8, expected: bool, table: Writer) -> bool {
     let mut words = vec![u64::MAX; needed];
     let started = Instant::now();
     let mut good = hurnavis::decide(&bytes, entry, &mut words) == Ok(expected);
-    let mark = if expected { Mark::Equal } else { Mark::Impossible };
+    let mark = if expected {
+        Mark::Equal
+    } else {
+        Mark::Impossible
+    };
     good &= hurnavis::mark(&bytes, entry, entry, &mut words) == Ok(mark);
     good &= words.iter().all(|w| *w == 0);
     println!(
