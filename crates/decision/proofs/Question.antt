@@ -101,15 +101,14 @@ module _ (entry : ℕ → Entry) (e : ℕ) where
     };
   })
 
-module _ {φ ψ : Formula} where
-  -- formulas that are true at the same worlds are satisfiable together
-  pub satisfiable-same : ((s : Structure) (w : ℕ) → w < s .worlds → truth s φ w ≡ truth s ψ w) → Satisfiable φ → Satisfiable ψ
-  satisfiable-same same sat = record {
-    structure = sat .structure;
-    world = sat .world;
-    inside = sat .inside;
-    holds = sym (same (sat .structure) (sat .world) (sat .inside)) ∙ sat .holds;
-  }
+-- formulas that are true at the same worlds are satisfiable together
+pub satisfiable-same : {φ ψ : Formula} → ((s : Structure) (w : ℕ) → w < s .worlds → truth s φ w ≡ truth s ψ w) → Satisfiable φ → Satisfiable ψ
+satisfiable-same same sat = record {
+  structure = sat .structure;
+  world = sat .world;
+  inside = sat .inside;
+  holds = sym (same (sat .structure) (sat .world) (sat .inside)) ∙ sat .holds;
+}
 
 pub stands-answer : {φ ψ : Formula} → StandsFor φ ψ → (r : Bool) → Answers r (Satisfiable φ) → Answers r (Satisfiable ψ)
 stands-answer stands true sat = satisfiable-same (λ s w inside. stands .same s w) sat

@@ -2,5 +2,5 @@
 pub mod Call
 -- the decision call
 pub mod Decide
--- a question about a table, as the calls ask it; an inner contract
+-- questions about a table, as the calls ask them; an inner contract
 pub mod Ask

@@ -29,15 +29,15 @@ compare-requires c κs =
     rw (sym (slice-aggregate-compare (c .before)))
     (record {
       ready = ready;
-      first = table-there _ _ (asked .enough) widened _ (asked .first, asked .first-shallow);
-      second = table-there _ _ (asked .enough) widened _ (asked .second, asked .second-shallow);
+      first = table-there _ _ (asked .enough) widened _ (asked .first);
+      second = table-there _ _ (asked .enough) widened _ (asked .second);
     })
 
 returns : tie.Need-returns
 returns c =
     let asked = c .before .before .before .before .before .before .before .before .before .before .before .before .pre in
     let widened = c .before .before .before .before .before .before .before .prepare .ensures .0 in
-    mark-same _ _ _ _ (λ s w inside. wide-stands widened _ (asked .first) .same s w) (λ s w inside. wide-stands widened _ (asked .second) .same s w)
+    mark-same _ _ _ _ (λ s w inside. wide-stands widened _ (asked .first .0) .same s w) (λ s w inside. wide-stands widened _ (asked .second .0) .same s w)
     (c .before .before .compare .result) (c .before .before .compare .ensures)
 
 pub compared-spec : {M : Type 1} → statement M

@@ -36,10 +36,8 @@ compared-requires c κs =
     let (ok, model, answer, enough) = c .before .before .before .before .before .pre in
     record {
       accepted = ok;
-      first = model;
-      second = answer;
-      first-shallow = rw (c .before .before .pair-depth .ensures) (le-max-left _ _);
-      second-shallow = rw (c .before .before .pair-depth .ensures) (le-max-right _ _);
+      first = (model, rw (c .before .before .pair-depth .ensures) (le-max-left _ _));
+      second = (answer, rw (c .before .before .pair-depth .ensures) (le-max-right _ _));
       enough = omega (arith, c .before .work-words .ensures, slice-aggregate-compared c);
     }
 
