@@ -8,7 +8,7 @@ use native.Mathlib.Nat.{mul-comm, mul-assoc, le-trans}
 use native.Mathlib.Decide.{ℕ-discrete}
 use native.Mathlib.Numerals.{add-one}
 use native.Mathlib.Omega.{arith}
-use lib.ListN.{length, take}
+use lib.ListN.{take}
 use borrow.Author.Tests.{eq-eqb, ne-eqb}
 use Rattle.semantics.specs.Formula.{Formula}
 use Rattle.semantics.specs.Structure.{Structure}
@@ -19,13 +19,11 @@ use Rattle.table.specs.declared.entry.Entry.{Entry}
 use Rattle.table.specs.Entry.{entryAt, size}
 use Rattle.table.specs.Formulas.{formulaAt}
 use Rattle.table.specs.Space.{weight, gradeSum, tableWork}
-use Rattle.tableau.specs.Wants.{wanted, Sat}
+use Rattle.tableau.specs.Wants.{Sat}
 use Rattle.wide.specs.Wide.{wideAt, StandsFor, Widened}
 use Rattle.wide.proofs.Widening.{wide-weight, wide-stands}
-use Rattle.cases.specs.Levels.{Roomy, Remembers}
-use Rattle.satisfy.specs.Sets.{QuestionAsked}
-use Rattle.satisfy.proofs.Calls.{room-kept}
-use Rattle.decision.specs.Ask.{Prepared, There}
+use Rattle.cases.specs.Levels.{Roomy}
+use Rattle.decision.specs.Ask.{There, AllThere}
 
 grades-ext : (entry entry′ : ℕ → Entry) (n : ℕ) → ((i : ℕ) → i < n → weight (entry i) ≡ weight (entry′ i)) → gradeSum entry n ≡ gradeSum entry′ n
 unfolding gradeSum
@@ -65,21 +63,8 @@ only-one e i h =
 pub has-one : (e : ℕ) → added nothing e e ≡ true
 has-one e = ap (λ (b : Bool). b || false) (eq-eqb e e refl)
 
-module _ {entry : ℕ → Entry} {n depth level : ℕ} {words : List ℕ} (ready : Prepared entry n depth level words) where
-  -- every entry of two sets is there
-  pub sets-asked : (ts fs : ℕ → Bool) → ((b : Bool) (i : ℕ) → wanted ts fs b i ≡ true → There entry n depth i) → QuestionAsked entry n ts fs depth level words
-  sets-asked ts fs there = record {
-    sets = record { formed = ready .formed; few = ready .few; below = λ b i h. there b i h .0; shallow = λ b i h. there b i h .1 };
-    room = ready .room;
-    memory = ready .memory;
-  }
-
-  pub one-asked : (e : ℕ) → There entry n depth e → QuestionAsked entry n (added nothing e) nothing depth level words
-  one-asked e there = sets-asked _ _ (elim [ true ↦ λ i h. rw (only-one e i h) there | false ↦ λ i h. absurd (false≢true h) ])
-
-  -- a question leaves as many words, which remember what is right
-  pub next-prepared : {worked : List ℕ} → length worked ≡ length words → Remembers entry depth level worked → Prepared entry n depth level worked
-  next-prepared as-many memory = record { formed = ready .formed; few = ready .few; room = room-kept as-many (ready .room); memory = memory }
+pub one-there : (entry : ℕ → Entry) (n depth e : ℕ) → There entry n depth e → AllThere entry n depth (added nothing e) nothing
+one-there entry n depth e there = elim [ true ↦ λ i h. rw (only-one e i h) there | false ↦ λ i h. absurd (false≢true h) ]
 
 module _ (entry : ℕ → Entry) (e : ℕ) where
   pub entry-answer : (r : Bool) → Answers r (Sat entry (added nothing e) nothing) → Answers r (Satisfiable (formulaAt entry e))

@@ -7,14 +7,14 @@ use Rattle.table.specs.declared.entry.Entry.{Entry}
 use Rattle.table.specs.Formulas.{formulaAt}
 use Rattle.semantics.specs.Answer.{Answers}
 use Rattle.tableau.specs.Wants.{Sat}
-use Rattle.satisfy.specs.Sets.{QuestionAsked}
-use Rattle.decision.proofs.Question.{only-one, has-one, sets-asked}
+use Rattle.decision.specs.Ask.{AllThere}
+use Rattle.decision.proofs.Question.{only-one, has-one}
 use Rattle.mark.specs.Mark.{Beyond}
 use Rattle.mark.specs.Pair.{PairPrepared}
 
-module _ {entry : ℕ → Entry} {n a b depth level : ℕ} {words : List ℕ} (asked : PairPrepared entry n a b depth level words) where
-  pub pair-asked : QuestionAsked entry n (added nothing a) (added nothing b) depth level words
-  pair-asked = sets-asked (asked .ready) _ _ (elim [ true ↦ λ i h. rw (only-one a i h) (asked .first) | false ↦ λ i h. rw (only-one b i h) (asked .second) ])
+pub pair-there : {entry : ℕ → Entry} {n a b depth level : ℕ} {words : List ℕ} → PairPrepared entry n a b depth level words
+    → AllThere entry n depth (added nothing a) (added nothing b)
+pair-there {entry} {n} {a} {b} asked = elim [ true ↦ λ i h. rw (only-one a i h) (asked .first) | false ↦ λ i h. rw (only-one b i h) (asked .second) ]
 
 module _ (entry : ℕ → Entry) (a b : ℕ) where
   pub pair-answer : (r : Bool) → Answers r (Sat entry (added nothing a) (added nothing b)) → Answers r (Beyond (formulaAt entry a) (formulaAt entry b))

@@ -14,6 +14,7 @@ ghost use Rattle.decision.specs.Ask.{Prepared, There};
 ghost use Rattle.decision.specs.Call.{pairWork, Cleared};
 ghost use Rattle.mark.specs.Pair.{PairAsked, PairPrepared};
 ghost use Rattle.mark.specs.Mark.{Beyond, MarkIs, numberOf, markingNumber, MarkingIs};
+use decision::ask::ask;
 use decision::ask::possible;
 use decision::ask::prepare;
 use decision::call::checked;
@@ -21,7 +22,6 @@ use decision::call::clear;
 use decision::call::pair_depth;
 use faults::Fault;
 use faults::Verdict;
-use satisfy::ask::satisfiable;
 use sets::Set;
 
 // In the order of their numbers, from 0: document 01's four, and document 02's for an answer that is not possible.
@@ -79,7 +79,7 @@ impl Marking {
     }
 }
 
-// Whether some world makes entry e true and the other false. What the words remember then helps the next question.
+// Whether some world makes entry e true and the other false.
 fn beyond(
     entries: &[u64],
     e: usize,
@@ -94,7 +94,7 @@ fn beyond(
 {
     let yes = Set::empty().with(e);
     let no = Set::empty().with(other);
-    satisfiable(entries, yes, no, depth, level, words)
+    ask(entries, yes, no, depth, level, words)
 }
 
 // Whether the answer is possible. Where it goes beyond the model (gained) it is, and nothing is asked.

@@ -5,8 +5,7 @@ use Prim.Native.Nat.{ℕ}
 use native.Mathlib.Omega.{arith}
 use borrow.Author.Needs.{needs}
 use Rattle.sets.specs.Set.{member, nothing, added}
-use Rattle.decision.proofs.Question.{next-prepared}
-use Rattle.mark.proofs.Question.{pair-asked, pair-answer}
+use Rattle.mark.proofs.Question.{pair-there, pair-answer}
 use Rattle.mark.proofs.beyond.Statement.{statement}
 use Rattle.mark.proofs.beyond.Tie as tie
 
@@ -23,16 +22,15 @@ first c = c .with .ensures ∙ ap (λ (p : ℕ → Bool). added p (c .before .be
 second : (c : tie.After-with2) → member (c .with2 .result) ≡ added nothing (c .before .before .before .before .before .before .args .other)
 second c = c .with2 .ensures ∙ ap (λ (p : ℕ → Bool). added p (c .before .before .before .before .before .before .args .other)) (c .before .empty2 .ensures)
 
-satisfiable-requires : tie.Need-satisfiable-requires
-satisfiable-requires c κs = rw (first (c .before .before .before), second (c .before)) (pair-asked (c .before .before .before .before .before .before .before .pre))
+ask-requires : tie.Need-ask-requires
+ask-requires c κs =
+    let asked = c .before .before .before .before .before .before .before .pre in
+    (asked .ready, rw (first (c .before .before .before), second (c .before)) (pair-there asked))
 
 returns : tie.Need-returns
 returns c =
-    let (answer, memory) = c .before .before .satisfiable .ensures in (
-      pair-answer _ _ _ (c .before .before .satisfiable .result)
-          (rw (first (c .before .before .before .before .before .before), second (c .before .before .before .before)) at answer),
-      next-prepared (c .before .before .before .before .before .before .before .before .before .before .pre .ready) (c .before .before .satisfiable .kept .1 .1 .1 .1 .1 .0) memory,
-    )
+    let (answer, ready) = c .before .before .ask .ensures in
+    (pair-answer _ _ _ (c .before .before .ask .result) (rw (first (c .before .before .before .before .before .before), second (c .before .before .before .before)) at answer), ready)
 
 pub beyond-spec : {M : Type 1} → statement M
 beyond-spec =
@@ -42,6 +40,6 @@ beyond-spec =
     with-requires
     (λ c κs. search needs)
     with-requires-2
-    satisfiable-requires
+    ask-requires
     (λ c. search needs)
     returns)

@@ -5,7 +5,7 @@ use Prim.Native.Nat.{ℕ}
 use native.Mathlib.Omega.{arith}
 use borrow.Author.Needs.{needs}
 use Rattle.sets.specs.Set.{member, nothing, added}
-use Rattle.decision.proofs.Question.{one-asked, entry-answer, next-prepared}
+use Rattle.decision.proofs.Question.{one-there, entry-answer}
 use Rattle.decision.proofs.ask.possible.Statement.{statement}
 use Rattle.decision.proofs.ask.possible.Tie as tie
 
@@ -16,19 +16,15 @@ with-requires c κs = let (ready, there) = c .before .before .before .pre in ome
 alone : (c : tie.After-with) → member (c .with .result) ≡ added nothing (c .before .before .before .before .args .e)
 alone c = c .with .ensures ∙ ap (λ (p : ℕ → Bool). added p (c .before .before .before .before .args .e)) (c .before .empty .ensures)
 
-satisfiable-requires : tie.Need-satisfiable-requires
-satisfiable-requires c κs =
+ask-requires : tie.Need-ask-requires
+ask-requires c κs =
     let (ready, there) = c .before .before .before .before .before .before .pre in
-    rw (alone (c .before .before), c .before .empty2 .ensures) (one-asked ready _ there)
+    (ready, rw (alone (c .before .before), c .before .empty2 .ensures) (one-there _ _ _ _ there))
 
 returns : tie.Need-returns
 returns c =
-    let (ready, there) = c .before .before .before .before .before .before .before .before .before .pre in
-    let (answer, memory) = c .before .before .satisfiable .ensures in (
-      entry-answer _ _ (c .before .before .satisfiable .result)
-          (rw (alone (c .before .before .before .before .before), c .before .before .before .before .empty2 .ensures) at answer),
-      next-prepared ready (c .before .before .satisfiable .kept .1 .1 .1 .1 .1 .0) memory,
-    )
+    let (answer, ready) = c .before .before .ask .ensures in
+    (entry-answer _ _ (c .before .before .ask .result) (rw (alone (c .before .before .before .before .before), c .before .before .before .before .empty2 .ensures) at answer), ready)
 
 pub possible-spec : {M : Type 1} → statement M
 possible-spec =
@@ -37,6 +33,6 @@ possible-spec =
     (λ c κs. search needs)
     with-requires
     (λ c κs. search needs)
-    satisfiable-requires
+    ask-requires
     (λ c. search needs)
     returns)
