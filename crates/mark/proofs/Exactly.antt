@@ -40,38 +40,24 @@ same-not same one = true≢false (sym (one .holds) ∙ same (one .structure) (on
 same-not-back : {φ ψ : Formula} → Same φ ψ → Beyond ψ φ → ⊥
 same-not-back same one = true≢false (sym (one .holds) ∙ sym (same (one .structure) (one .world) (one .inside)) ∙ one .fails)
 
--- is the answer possible; is it true somewhere without the model; is it possible and the model true somewhere without it
-possible : Mark → Bool
-possible Mark.Equal = true
-possible Mark.Narrower = true
-possible Mark.Wider = true
-possible Mark.Crossing = true
-possible Mark.Impossible = false
+-- what a mark tells: is the answer possible; is it true somewhere without the model; is it possible and the model true somewhere without it
+told : Mark → Bool × Bool × Bool
+told Mark.Equal = (true, false, false)
+told Mark.Narrower = (true, false, true)
+told Mark.Wider = (true, true, false)
+told Mark.Crossing = (true, true, true)
+told Mark.Impossible = (false, false, false)
 
-gained : Mark → Bool
-gained Mark.Equal = false
-gained Mark.Narrower = false
-gained Mark.Wider = true
-gained Mark.Crossing = true
-gained Mark.Impossible = false
+from : (possible gained lost : Bool) → Mark
+from possible gained lost = cond possible (cond gained (cond lost Mark.Crossing Mark.Wider) (cond lost Mark.Narrower Mark.Equal)) Mark.Impossible
 
-lost : Mark → Bool
-lost Mark.Equal = false
-lost Mark.Narrower = true
-lost Mark.Wider = false
-lost Mark.Crossing = true
-lost Mark.Impossible = false
-
-from : Bool → Bool → Bool → Mark
-from p g l = cond p (cond g (cond l Mark.Crossing Mark.Wider) (cond l Mark.Narrower Mark.Equal)) Mark.Impossible
-
-from-all : (x : Mark) → from (possible x) (gained x) (lost x) ≡ x
-unfolding from possible gained lost
-from-all Mark.Equal = refl
-from-all Mark.Narrower = refl
-from-all Mark.Wider = refl
-from-all Mark.Crossing = refl
-from-all Mark.Impossible = refl
+from-told : (x : Mark) → from (told x .0) (told x .1) (told x .2) ≡ x
+unfolding from told
+from-told Mark.Equal = refl
+from-told Mark.Narrower = refl
+from-told Mark.Wider = refl
+from-told Mark.Crossing = refl
+from-told Mark.Impossible = refl
 
 one-answer : (P : Type 0) (a b : Bool) → Answers a P → Answers b P → a ≡ b
 one-answer P true true p q = refl
@@ -80,36 +66,21 @@ one-answer P false true p q = absurd (p q)
 one-answer P false false p q = refl
 
 module _ (model answer : Formula) where
-  says-possible : (x : Mark) → MarkIs model answer x → Answers (possible x) (Satisfiable answer)
-  unfolding possible
-  says-possible Mark.Equal fits = fits .0
-  says-possible Mark.Narrower fits = fits .0
-  says-possible Mark.Wider fits = fits .0
-  says-possible Mark.Crossing fits = fits .0
-  says-possible Mark.Impossible none = none
-
-  says-gained : (x : Mark) → MarkIs model answer x → Answers (gained x) (Beyond answer model)
-  unfolding gained
-  says-gained Mark.Equal fits = same-not-back (fits .1)
-  says-gained Mark.Narrower fits = inside-not (fits .1)
-  says-gained Mark.Wider fits = fits .2
-  says-gained Mark.Crossing fits = fits .1
-  says-gained Mark.Impossible none = λ beyond. none (beyond-possible beyond)
-
-  says-lost : (x : Mark) → MarkIs model answer x → Answers (lost x) (Satisfiable answer × Beyond model answer)
-  unfolding lost
-  says-lost Mark.Equal fits = λ both. same-not (fits .1) (both .1)
-  says-lost Mark.Narrower fits = (fits .0, fits .2)
-  says-lost Mark.Wider fits = λ both. inside-not (fits .1) (both .1)
-  says-lost Mark.Crossing fits = (fits .0, fits .2)
-  says-lost Mark.Impossible none = λ both. none (both .0)
+  says : (x : Mark) → MarkIs model answer x
+      → Answers (told x .0) (Satisfiable answer) × Answers (told x .1) (Beyond answer model) × Answers (told x .2) (Satisfiable answer × Beyond model answer)
+  unfolding told
+  says Mark.Equal (sat, same) = (sat, same-not-back same, λ both. same-not same (both .1))
+  says Mark.Narrower (sat, inside, lost) = (sat, inside-not inside, (sat, lost))
+  says Mark.Wider (sat, inside, gained) = (sat, gained, λ both. inside-not inside (both .1))
+  says Mark.Crossing (sat, gained, lost) = (sat, gained, (sat, lost))
+  says Mark.Impossible none = (none, λ gained. none (beyond-possible gained), λ both. none (both .0))
 
   pub mark-unique : (x y : Mark) → MarkIs model answer x → MarkIs model answer y → x ≡ y
   mark-unique x y fits also =
-      let same-possible = one-answer _ (possible x) (possible y) (says-possible x fits) (says-possible y also) in
-      let same-gained = one-answer _ (gained x) (gained y) (says-gained x fits) (says-gained y also) in
-      let same-lost = one-answer _ (lost x) (lost y) (says-lost x fits) (says-lost y also) in
-      sym (from-all x) ∙ ap (λ (p : Bool). from p (gained x) (lost x)) same-possible ∙ ap₂ (from (possible y)) same-gained same-lost ∙ from-all y
+      let possible = one-answer _ (told x .0) (told y .0) (says x fits .0) (says y also .0) in
+      let gained = one-answer _ (told x .1) (told y .1) (says x fits .1) (says y also .1) in
+      let lost = one-answer _ (told x .2) (told y .2) (says x fits .2) (says y also .2) in
+      sym (from-told x) ∙ ap (λ (p : Bool). from p (told x .1) (told x .2)) possible ∙ ap₂ (from (told y .0)) gained lost ∙ from-told y
 
   pub mark-some : ((x : Mark) → MarkIs model answer x → ⊥) → ⊥
   mark-some none =
