@@ -7,6 +7,7 @@ mod full;
 mod meanings;
 mod records;
 mod refusals;
+mod rings;
 mod rows;
 
 use case::lends;
@@ -86,5 +87,6 @@ fn main() {
     tally = full::entries(tally);
     tally = full::records(tally);
     tally = full::chains(tally);
+    tally = rings::rings(tally);
     tally.print(b"board vectors");
 }

@@ -1,4 +1,4 @@
-// What packed tables and packed structures share: the numbers that their bytes spell, and words read without a bound.
+// What packed tables and packed structures share: the numbers that their bytes spell, and lists read without a bound.
 ghost use mathlib.Core.Path.{_≡_};
 ghost use Prim.Native.Nat.{_*_, _^_, _<_, _≤_};
 ghost use lib.ListN.{getD};
@@ -39,4 +39,15 @@ pub fn word_at(words: &[u64], at: usize) -> u64
     ensures { λ r. ⌜ r ≡ getD (now (words .entry)) at 0 ⌝ }
 {
     if at < words.len() { words[at] } else { 0 }
+}
+
+// The 16-bit number at a place, 0 past the end.
+pub fn short_at(shorts: &[u16], at: usize) -> usize
+    ensures { λ r. ⌜ (r ≡ getD (now (shorts .entry)) at 0) × (r < 65536) ⌝ }
+{
+    if at < shorts.len() {
+        shorts[at] as usize
+    } else {
+        0
+    }
 }

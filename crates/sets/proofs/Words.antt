@@ -157,6 +157,14 @@ word-none {p} n h = bits-ext n (word-lt p n) (pow-pos n) (λ i l. bit-word p l �
 pub word-one : {k n : ℕ} → k < n → word (λ i. eqb i k) n ≡ 2 ^ k
 word-one {k} {n} h = bits-ext n (word-lt _ n) (pow-lt h) (λ i l. bit-word _ l ∙ sym (bit-pow k i))
 
+-- numbers behind the last that passes add nothing
+pub word-short : {p : ℕ → Bool} {m n : ℕ} → m ≤ n → ((i : ℕ) → m ≤ i → i < n → p i ≡ false) → word p n ≡ word p m
+word-short {p} {m} {n} h none =
+    bits-ext n (word-lt p n) (lt-of-lt-of-le (word-lt p m) (pow-mono h))
+    (λ i l.
+    bit-word p l
+    ∙ by-cases (decLt i m) (λ (b : i < m). sym (bit-word p b)) (λ (g : ¬ (i < m)). none i (omega arith) l ∙ sym (bit-word-high p {n = m} (omega arith))))
+
 -- an operation on words is one on tests
 module _ (op : ℕ → ℕ → ℕ) (f : Bool → Bool → Bool)
     (bit-by-bit : (a b i : ℕ) → bitAt (op a b) i ≡ f (bitAt a i) (bitAt b i))

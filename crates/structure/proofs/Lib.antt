@@ -3,3 +3,5 @@
 pub mod Accepted
 -- the words of what records state, record by record
 pub mod Stated
+-- masks that gain what a record states
+pub mod Masks

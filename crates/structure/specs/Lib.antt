@@ -3,5 +3,7 @@
 pub mod Record
 -- records to the structure that they state
 pub mod Read
+-- what they state, as rows of words
+pub mod Masks
 -- the faults 6 to 8, in order
 pub mod Check

@@ -1,12 +1,9 @@
 -- What packed records state: document 01, "The drawn build".
-use mathlib.Core.Path.{_≡_}
 use mathlib.Core.Bool.{Bool, false, _&&_, _||_}
 use mathlib.Core.List.{List}
-use Prim.Native.Nat.{ℕ, zero, suc, _≤_, _<_}
+use Prim.Native.Nat.{ℕ, zero, suc}
 use lib.Dec.{eqb}
-use lib.ListN.{getD}
 use Rattle.semantics.specs.Structure.{Structure}
-use Rattle.sets.specs.Word.{word}
 use Rattle.structure.specs.declared.record.Record.{Record}
 use Rattle.structure.specs.Record.{recordAt, records, worldsOf}
 
@@ -34,8 +31,3 @@ stated row n = record {
 -- the structure that the bytes pack
 abbrev pub structureOf : List ℕ → Structure
 structureOf bytes = stated (recordAt bytes) (records bytes)
-
--- at place v of a list stands the word of the worlds that links of the relation lead to from v; 0 behind the worlds
-pub record SuccessorWords (s : Structure) (relation : ℕ) (words : List ℕ) : Type 0 where
-  pub below : (v : ℕ) → v < s .worlds → getD words v 0 ≡ word (s .links relation v) (s .worlds)
-  pub behind : (v : ℕ) → s .worlds ≤ v → getD words v 0 ≡ 0

@@ -1,14 +1,15 @@
 // What an accepted structure states, as words: bit w of a word speaks of the world w.
 ghost use mathlib.Core.Path.{_≡_};
-ghost use mathlib.Core.Bool.{_&&_};
-ghost use Prim.Native.Nat.{ℕ, _≤_, _<_};
-ghost use lib.Dec.{eqb};
+ghost use Prim.Native.Nat.{ℕ, _+_, _^_, _≤_, _<_};
+ghost use lib.Bits.{bitOr};
+ghost use lib.ListN.{length, getD, set};
 ghost use Rattle.faults.specs.declared.Verdict.the-variants.{Accepted};
-ghost use Rattle.sets.specs.Word.{word};
-ghost use Rattle.structure.specs.Read.{structureOf, SuccessorWords};
+ghost use Rattle.structure.specs.Record.{recordAt, records, worldsOf};
+ghost use Rattle.structure.specs.Read.{structureOf};
+ghost use Rattle.structure.specs.Masks.{keyOf, placeOf, Layout, Gained, Masked};
 ghost use Rattle.structure.specs.Check.{structureVerdict};
 use crate::record;
-use crate::record::Record;
+use packed::short_at;
 
 // How many worlds there are.
 pub fn worlds(bytes: &[u8]) -> usize
@@ -18,47 +19,54 @@ pub fn worlds(bytes: &[u8]) -> usize
     header.world as usize + 1
 }
 
-// The word of the world w if the record is of the kind and has the name, and of no world if not.
-fn one_world(r: Record, kind: u32, name: u32, w: u32) -> u64
-    requires { ⌜ w < 64 ⌝ }
-    ensures { λ b. ⌜ ((n : ℕ) → (r .kind ≡ kind → w < n) → b ≡ word (λ v. eqb (r .kind) kind && eqb (r .name) name && eqb v w) n) ⌝ }
+// Where the place of a row stands in a list of places: of a relation, or of a fact.
+pub fn key(relation: bool, name: u32) -> usize
+    requires { ⌜ name < 256 ⌝ }
+    ensures { λ r. ⌜ (r ≡ keyOf relation name) × (r < 512) ⌝ }
 {
-    if r.kind == kind && r.name == name {
-        1 << w
+    if relation {
+        256 + name as usize
     } else {
-        0
+        name as usize
     }
 }
 
-// The worlds where a fact holds.
-pub fn fact_word(bytes: &[u8], name: u32) -> u64
-    requires { ⌜ structureVerdict (now bytes) ≡ Accepted ⌝ }
-    ensures { λ r. ⌜ r ≡ word (structureOf (now (bytes .entry)) .holds name) (structureOf (now (bytes .entry)) .worlds) ⌝ }
+// Sets the bit `to` of word `from` of a row.
+fn add(relation: bool, name: u32, from: u32, to: u32, places: &[u16], masks: &mut [u64])
+    requires { ⌜ (name < 256) × (to < 64) × (placeOf (now places) relation name + from < length (now masks)) ⌝ }
+    ensures { λ r. ⌜ now (masks .exit) ≡ set (now (masks .entry)) (placeOf (now (places .entry)) relation name + from)
+        (bitOr (getD (now (masks .entry)) (placeOf (now (places .entry)) relation name + from) 0) (2 ^ to)) ⌝ }
 {
-    let n = bytes.len() / 3;
-    let mut held: u64 = 0;
-    let mut i = 0;
-    while i < n {
-        let r = record::record_at(bytes, i);
-        held |= one_world(r, 1, name, r.world);
-        i += 1;
-    }
-    held
+    let at = short_at(places, key(relation, name)) + from as usize;
+    masks[at] |= 1 << to;
 }
 
-// For each world the worlds that links of a relation lead to from it, and 0 behind the worlds.
-pub fn successors(bytes: &[u8], relation: u32) -> [u64; 64]
-    requires { ⌜ structureVerdict (now bytes) ≡ Accepted ⌝ }
-    ensures { λ r. ⌜ SuccessorWords (structureOf (now (bytes .entry))) relation r ⌝ }
+// Adds what record i states to the masks.
+fn add_record(bytes: &[u8], i: usize, places: &[u16], masks: &mut [u64])
+    requires { ⌜ (structureVerdict (now bytes) ≡ Accepted) × (i < records (now bytes))
+        × Layout (worldsOf (recordAt (now bytes))) (length (now masks)) (now places) ⌝ }
+    ensures { λ r. ⌜ Gained (recordAt (now (bytes .entry)) i) (worldsOf (recordAt (now (bytes .entry)))) (now (places .entry))
+        (now (masks .entry)) (now (masks .exit)) ⌝ }
+{
+    let r = record::record_at(bytes, i);
+    let kind = r.kind;
+    match kind {
+        1 => add(false, r.name, 0, r.world, places, masks),
+        2 => add(true, r.name, r.world, r.to, places, masks),
+        _ => {}
+    }
+}
+
+// Fills the masks, zeros before: each record is read once, and goes to the row that has its fact or its relation.
+pub fn fill_masks(bytes: &[u8], places: &[u16], masks: &mut [u64])
+    requires { ⌜ (structureVerdict (now bytes) ≡ Accepted) × Layout (structureOf (now bytes) .worlds) (length (now masks)) (now places)
+        × ((p : ℕ) → getD (now masks) p 0 ≡ 0) ⌝ }
+    ensures { λ r. ⌜ Masked (structureOf (now (bytes .entry))) (now (places .entry)) (now (masks .exit)) ⌝ }
 {
     let n = bytes.len() / 3;
-    let mut to = [0u64; 64];
     let mut i = 0;
     while i < n {
-        let r = record::record_at(bytes, i);
-        let from = r.world as usize;
-        to[from] |= one_world(r, 2, relation, r.to);
+        add_record(bytes, i, places, masks);
         i += 1;
     }
-    to
 }

@@ -36,9 +36,9 @@ fn triple_at(bytes: &[u8], i: usize) -> u32
     big_endian(bytes, 3, i) as u32
 }
 
-// Record i of a structure. Its worlds have six bits.
+// Record i of a structure. Its worlds have six bits, its name has eight.
 pub fn record_at(bytes: &[u8], i: usize) -> Record
-    ensures { λ r. ⌜ (r ≡ recordAt (now (bytes .entry)) i) × (r .world < 64) × (r .to < 64) ⌝ }
+    ensures { λ r. ⌜ (r ≡ recordAt (now (bytes .entry)) i) × (r .world < 64) × (r .to < 64) × (r .name < 256) ⌝ }
 {
     Record::unpack(triple_at(bytes, i))
 }

@@ -1,42 +1,173 @@
 // The truth table of a structure (document 01: the board): which entries of a table are true at which worlds.
 ghost use mathlib.Core.Path.{_≡_};
-ghost use Prim.Native.Nat.{ℕ, _≤_, _<_};
+ghost use mathlib.Core.Bool.{true};
+ghost use Prim.Native.Nat.{ℕ, _+_, _≤_, _<_};
 ghost use lib.ListN.{length, getD};
 ghost use Rattle.faults.specs.declared.Verdict.the-variants.{Accepted};
+ghost use Rattle.semantics.specs.Structure.{Structure};
+ghost use Rattle.sets.specs.Word.{word};
+ghost use Rattle.structure.specs.Record.{records};
 ghost use Rattle.structure.specs.Read.{structureOf};
-ghost use Rattle.structure.specs.Check.{structureVerdict};
 ghost use Rattle.table.specs.Entry.{entryAt, size};
 ghost use Rattle.table.specs.Check.{tableVerdict};
-ghost use Rattle.truth_table.specs.Board.{truthWord, Filled, boardVerdict, BoardAfter};
+ghost use Rattle.truth_table.specs.Board.{truthWord, boardVerdict, BoardAfter};
+ghost use Rattle.truth_table.specs.Masks.{Called, Served, LaidOut};
 use faults::Fault;
 use faults::Verdict;
+use packed::short_at;
 use packed::word_at;
+use structure::read;
 
 pub mod entry_word;
+pub mod places;
 
 // The word of entry i, where the words before it are there already: what an entry refers to stands before it.
-fn next_word(table: &[u8], packed: &[u8], words: &[u64], i: usize) -> u64
-    requires { ⌜ (tableVerdict (now table) ≡ Accepted) × (structureVerdict (now packed) ≡ Accepted) × (i < size (now table))
-        × ((j : ℕ) → j < i → getD (now words) j 0 ≡ truthWord (structureOf (now packed)) (entryAt (now table)) j) ⌝ }
-    ensures { λ r. ⌜ r ≡ truthWord (structureOf (now (packed .entry))) (entryAt (now (table .entry))) i ⌝ }
+fn next_word(
+    table: &[u8],
+    rows: &[u16],
+    masks: &[u64],
+    width: usize,
+    all: u64,
+    words: &[u64],
+    i: usize,
+) -> u64
+    requires { ⌜ (tableVerdict (now table) ≡ Accepted) × (i < size (now table)) × (width ≤ 64)
+        × (6 ≤ entryAt (now table) i .kind → getD (now rows) i 0 + width ≤ length (now masks)) ⌝ }
+    ensures { λ r. ⌜ ((s : Structure) → all ≡ word (λ w. true) (s .worlds) → s .worlds ≤ 64
+        → Served s (entryAt (now (table .entry)) i) (now (masks .entry)) (getD (now (rows .entry)) i 0) width
+        → ((j : ℕ) → j < i → getD (now (words .entry)) j 0 ≡ truthWord s (entryAt (now (table .entry))) j)
+        → r ≡ truthWord s (entryAt (now (table .entry))) i) ⌝ }
 {
     let e = table::entry::entry_at(table, i);
     let first = word_at(words, e.first as usize);
     let second = word_at(words, e.second as usize);
-    entry_word::entry_word(packed, e, first, second)
+    entry_word::entry_word(e, masks, short_at(rows, i), width, all, first, second)
 }
 
-// Fills the first words, entry by entry.
-fn fill(table: &[u8], packed: &[u8], words: &mut [u64])
-    requires { ⌜ (tableVerdict (now table) ≡ Accepted) × (structureVerdict (now packed) ≡ Accepted) × (size (now table) ≤ length (now words)) ⌝ }
-    ensures { λ r. ⌜ Filled (structureOf (now (packed .entry))) (entryAt (now (table .entry))) (size (now (table .entry))) (now (words .entry)) (now (words .exit)) ⌝ }
+// Fills the first words, entry by entry, where the masks have what the entries ask for, in rows of `width` words.
+fn fill_words(
+    table: &[u8],
+    packed: &[u8],
+    rows: &[u16],
+    masks: &[u64],
+    width: usize,
+    words: &mut [u64],
+)
+    requires { ⌜ Called (now table) (now packed) (length (now words)) × (width ≤ 64)
+        × ((i : ℕ) → i < size (now table) → Served (structureOf (now packed)) (entryAt (now table) i) (now masks) (getD (now rows) i 0) width) ⌝ }
+    ensures { λ r. ⌜ BoardAfter (now (table .entry)) (now (packed .entry)) (now (words .entry)) Accepted (now (words .exit)) ⌝ }
 {
+    let all = entry_word::all_worlds(read::worlds(packed));
     let n = table.len() / 4;
     let mut i = 0;
     while i < n {
-        words[i] = next_word(table, packed, words, i);
+        words[i] = next_word(table, rows, masks, width, all, words, i);
         i += 1;
     }
+}
+
+// Fills the words by masks that are lent as zeros, and filled first.
+fn fill_with(
+    table: &[u8],
+    packed: &[u8],
+    places: &[u16],
+    rows: &[u16],
+    masks: &mut [u64],
+    words: &mut [u64],
+)
+    requires { ⌜ Called (now table) (now packed) (length (now words)) × ((p : ℕ) → getD (now masks) p 0 ≡ 0)
+        × LaidOut (now table) (now packed) (length (now masks)) (now places) (now rows) ⌝ }
+    ensures { λ r. ⌜ BoardAfter (now (table .entry)) (now (packed .entry)) (now (words .entry)) Accepted (now (words .exit)) ⌝ }
+{
+    read::fill_masks(packed, places, masks);
+    fill_words(table, packed, rows, masks, read::worlds(packed), words);
+}
+
+// Few masks: 512 bytes, which are soon zeros.
+fn fill_small(table: &[u8], packed: &[u8], places: &[u16], rows: &[u16], words: &mut [u64])
+    requires { ⌜ Called (now table) (now packed) (length (now words))
+        × LaidOut (now table) (now packed) 64 (now places) (now rows) ⌝ }
+    ensures { λ r. ⌜ BoardAfter (now (table .entry)) (now (packed .entry)) (now (words .entry)) Accepted (now (words .exit)) ⌝ }
+{
+    let mut masks = [0u64; 64];
+    fill_with(table, packed, places, rows, &mut masks, words);
+}
+
+// More: 4 KiB, six relations of 64 worlds and a fact for every other entry.
+fn fill_medium(table: &[u8], packed: &[u8], places: &[u16], rows: &[u16], words: &mut [u64])
+    requires { ⌜ Called (now table) (now packed) (length (now words))
+        × LaidOut (now table) (now packed) 512 (now places) (now rows) ⌝ }
+    ensures { λ r. ⌜ BoardAfter (now (table .entry)) (now (packed .entry)) (now (words .entry)) Accepted (now (words .exit)) ⌝ }
+{
+    let mut masks = [0u64; 512];
+    fill_with(table, packed, places, rows, &mut masks, words);
+}
+
+// The most that a table can ask for: 32.5 KiB.
+fn fill_large(table: &[u8], packed: &[u8], places: &[u16], rows: &[u16], words: &mut [u64])
+    requires { ⌜ Called (now table) (now packed) (length (now words))
+        × LaidOut (now table) (now packed) 4160 (now places) (now rows) ⌝ }
+    ensures { λ r. ⌜ BoardAfter (now (table .entry)) (now (packed .entry)) (now (words .entry)) Accepted (now (words .exit)) ⌝ }
+{
+    let mut masks = [0u64; 4160];
+    fill_with(table, packed, places, rows, &mut masks, words);
+}
+
+// Fills the words by as many masks as the rows take.
+fn fill_room(
+    table: &[u8],
+    packed: &[u8],
+    places: &[u16],
+    rows: &[u16],
+    room: usize,
+    words: &mut [u64],
+)
+    requires { ⌜ Called (now table) (now packed) (length (now words)) × (room ≤ 4160)
+        × LaidOut (now table) (now packed) room (now places) (now rows) ⌝ }
+    ensures { λ r. ⌜ BoardAfter (now (table .entry)) (now (packed .entry)) (now (words .entry)) Accepted (now (words .exit)) ⌝ }
+{
+    if room <= 64 {
+        fill_small(table, packed, places, rows, words);
+        return;
+    }
+    if room <= 512 {
+        fill_medium(table, packed, places, rows, words);
+        return;
+    }
+    fill_large(table, packed, places, rows, words);
+}
+
+// Lays out what the table asks for, and fills the words.
+fn fill_laid(table: &[u8], packed: &[u8], words: &mut [u64])
+    requires { ⌜ Called (now table) (now packed) (length (now words)) ⌝ }
+    ensures { λ r. ⌜ BoardAfter (now (table .entry)) (now (packed .entry)) (now (words .entry)) Accepted (now (words .exit)) ⌝ }
+{
+    let mut places = [0u16; 512];
+    let mut rows = [0u16; 64];
+    let room = places::place_all(table, read::worlds(packed), &mut places, &mut rows);
+    fill_room(table, packed, &places, &rows, room, words);
+}
+
+// Fills the words where the header is the only record: nothing is stated, so there is nothing to lay out.
+fn fill_bare(table: &[u8], packed: &[u8], words: &mut [u64])
+    requires { ⌜ Called (now table) (now packed) (length (now words)) × (records (now packed) ≤ 1) ⌝ }
+    ensures { λ r. ⌜ BoardAfter (now (table .entry)) (now (packed .entry)) (now (words .entry)) Accepted (now (words .exit)) ⌝ }
+{
+    let rows = [0u16; 1];
+    let masks = [0u64; 1];
+    fill_words(table, packed, &rows[..0], &masks[..0], 0, words);
+}
+
+// Fills the first words, a word an entry.
+fn fill(table: &[u8], packed: &[u8], words: &mut [u64])
+    requires { ⌜ Called (now table) (now packed) (length (now words)) ⌝ }
+    ensures { λ r. ⌜ BoardAfter (now (table .entry)) (now (packed .entry)) (now (words .entry)) Accepted (now (words .exit)) ⌝ }
+{
+    if packed.len() <= 3 {
+        fill_bare(table, packed, words);
+        return;
+    }
+    fill_laid(table, packed, words);
 }
 
 // The first fault of a call with this many lent words.

@@ -1,11 +1,15 @@
 //! Hurnavis beside an independent implementation, which was written from the documents alone.
 //!
+//! - [`boards`]: boards that more than one program measures.
 //! - [`independent`]: the calls once more, by another method.
 //! - [`layout`]: the packed formats and the words needed, read here a second time; nothing of it is the package `hurnavis`.
+//! - [`show`]: times and ratios in words.
 //! - [`xorshift`]: a seeded generator for random inputs.
 //!
-//! The programs `differential`, `deepest`, `bench` and `slowest` stand in `src/bin`.
+//! The programs `differential`, `boards`, `deepest`, `bench` and `slowest` stand in `src/bin`.
 
+pub mod boards;
 pub mod independent;
 pub mod layout;
+pub mod show;
 pub mod xorshift;

@@ -1,7 +1,7 @@
 -- `board` meets its contract: what the checks accept is what `fill` requires, and a refusal comes before anything is written.
 use mathlib.Core.Path.{_≡_, refl, sym, _∙_}
 use mathlib.Core.List.{List}
-use Prim.Native.Nat.{ℕ, _≤_}
+use Prim.Native.Nat.{ℕ}
 use lib.Dec.{ltb}
 use lib.ListN.{length}
 use borrow.Author.Needs.{needs}
@@ -13,16 +13,21 @@ use Rattle.structure.specs.Check.{structureVerdict}
 use Rattle.table.specs.Entry.{size}
 use Rattle.table.specs.Check.{tableVerdict}
 use Rattle.truth_table.specs.Board.{boardVerdict}
+use Rattle.truth_table.specs.Masks.{Called}
 use Rattle.truth_table.proofs.board.Statement.{statement}
 use Rattle.truth_table.proofs.board.Tie as tie
 
 -- what an accepted call meets
 met : (bytes packed : List ℕ) (words : ℕ) → boardVerdict bytes packed words ≡ Accepted
-    → (tableVerdict bytes ≡ Accepted) × (structureVerdict packed ≡ Accepted) × (size bytes ≤ words)
+    → Called bytes packed words
 met bytes packed words ok =
     let first = both-accepted (tableVerdict bytes) _ ok in
     let second = both-accepted (structureVerdict packed) _ (first .1) in
-    (first .0, second .0, ltb-false words (size bytes) (not-refused (ltb words (size bytes)) Space (second .1)))
+    record {
+      table = first .0;
+      structure = second .0;
+      space = ltb-false words (size bytes) (not-refused (ltb words (size bytes)) Space (second .1));
+    }
 
 accepted : (c : tie.After-enum-told)
     → boardVerdict (c .before .before .before .before .before .before .args .table .now) (c .before .before .before .before .before .before .args .packed .now)

@@ -11,12 +11,12 @@ use Rattle.semantics.specs.Structure.{Structure}
 use Rattle.semantics.specs.Truth.{truth}
 use Rattle.sets.specs.Word.{word}
 use Rattle.sets.proofs.Words.{word-ext, word-none, word-both, word-either, word-not}
-use Rattle.structure.specs.Read.{structureOf}
 use Rattle.table.specs.declared.entry.Entry.{Entry}
 use Rattle.table.specs.Formulas.{formulaOf}
 use Rattle.table.specs.Check.{usesOf}
 use Rattle.table.proofs.Cases.{by-kind}
 use Rattle.table.proofs.Formulas.{truthRows, truth-of-kind}
+use Rattle.truth_table.proofs.Counting.{at-most}
 use Rattle.truth_table.proofs.entry_word.entry_word.Statement.{statement}
 use Rattle.truth_table.proofs.entry_word.entry_word.Tie as tie
 
@@ -43,50 +43,50 @@ module _ (s : Structure) (ref : ℕ → Formula) (e : Entry) where
       (λ h0 h1 h2 h3 h4 h5 h6 h7. absurd (h7 refl))
       (λ k h0 h1 h2 h3 h4 h5 h6 h7. sym (word-none (s .worlds) (λ w l. refl)))
 
--- the word of every world
-all : (c : tie.After-all-worlds) → c .all-worlds .result ≡ word (λ w. true) (structureOf (c .before .before .before .args .packed .now) .worlds)
-all c = c .all-worlds .ensures ∙ ap (word (λ w. true)) (c .before .worlds .ensures .0)
-
 returns : tie.Need-returns
-returns c ref p q = all (c .before) ∙ by-row _ ref _ 0 (c .match .keys1)
+returns c s ref all few served p q = all ∙ by-row s ref _ 0 (c .match .keys1)
 
 returns-2 : tie.Need-returns-2
-returns-2 c ref p q = sym (word-none _ (λ w l. refl)) ∙ by-row _ ref _ 1 (c .match .keys2)
+returns-2 c s ref all few served p q = sym (word-none _ (λ w l. refl)) ∙ by-row s ref _ 1 (c .match .keys2)
 
 returns-3 : tie.Need-returns-3
-returns-3 c ref p q = c .fact-word .ensures ∙ by-row _ ref _ 2 (c .before .match .keys3)
+returns-3 c s ref all few served p q = c .word-at .ensures ∙ served .fact (c .before .match .keys3) ∙ by-row s ref _ 2 (c .before .match .keys3)
 
 returns-4 : tie.Need-returns-4
 unfolding usesOf
-returns-4 c ref p q =
-    ap₂ (λ (x y : ℕ). bitAnd x (2 ^ 64 - 1 - y)) (all (c .before)) (p (rw (c .match .keys4) refl))
-    ∙ word-not _ _ 64 (omega arith) ∙ by-row _ ref _ 3 (c .match .keys4)
+returns-4 c s ref all few served p q =
+    ap₂ (λ (x y : ℕ). bitAnd x (2 ^ 64 - 1 - y)) all (p (rw (c .match .keys4) refl))
+    ∙ word-not _ _ 64 few ∙ by-row s ref _ 3 (c .match .keys4)
 
 returns-5 : tie.Need-returns-5
 unfolding usesOf
-returns-5 c ref p q =
+returns-5 c s ref all few served p q =
     ap₂ bitAnd (p (rw (c .match .keys5) refl)) (q (rw (c .match .keys5) refl))
-    ∙ word-both _ _ _ ∙ by-row _ ref _ 4 (c .match .keys5)
+    ∙ word-both _ _ _ ∙ by-row s ref _ 4 (c .match .keys5)
 
 returns-6 : tie.Need-returns-6
 unfolding usesOf
-returns-6 c ref p q =
+returns-6 c s ref all few served p q =
     ap₂ bitOr (p (rw (c .match .keys6) refl)) (q (rw (c .match .keys6) refl))
-    ∙ word-either _ _ _ ∙ by-row _ ref _ 5 (c .match .keys6)
+    ∙ word-either _ _ _ ∙ by-row s ref _ 5 (c .match .keys6)
 
 returns-7 : tie.Need-returns-7
 unfolding usesOf
-returns-7 c ref p q = c .counting-word .ensures _ (p (rw (c .before .match .keys7) refl)) ∙ by-row _ ref _ 6 (c .before .match .keys7)
+returns-7 c s ref all few served p q =
+    let kind = c .before .match .keys7 in
+    c .at-least .ensures s _ _ (served .links (omega arith)) (p (rw kind refl)) all ∙ by-row s ref _ 6 kind
 
 returns-8 : tie.Need-returns-8
 unfolding usesOf
-returns-8 c ref p q = c .counting-word2 .ensures _ (p (rw (c .before .match .keys8) refl)) ∙ by-row _ ref _ 7 (c .before .match .keys8)
+returns-8 c s ref all few served p q =
+    let kind = c .before .before .match .keys8 in
+    ap₂ (λ (x y : ℕ). bitAnd x (2 ^ 64 - 1 - y)) all (c .at-least2 .ensures s _ _ (served .links (omega arith)) (p (rw kind refl)) all)
+    ∙ word-not _ _ 64 few ∙ word-ext (s .worlds) (λ w l. at-most (c .before .before .before .before .args .e .grade) _) ∙ by-row s ref _ 7 kind
 
 returns-9 : tie.Need-returns-9
-returns-9 c ref p q =
+returns-9 c s ref all few served p q =
     let r = c .match .rest in
-    let s = structureOf (c .before .before .before .before .args .packed .now) in
-    let e = c .before .before .before .before .args .e in
+    let e = c .before .before .args .e in
     no-row s ref e (e .kind) (r .0 .0 .0 .0 .0 .0 .0 .1) (r .0 .0 .0 .0 .0 .0 .1) (r .0 .0 .0 .0 .0 .1) (r .0 .0 .0 .0 .1) (r .0 .0 .0 .1) (r .0 .0 .1) (r .0 .1) (r .1)
     ∙ by-row s ref e (e .kind) refl
 
@@ -95,10 +95,9 @@ entry-word-spec =
     tie.close
     (tie.spec
     (λ c κs. search needs)
-    (λ c κs. search needs)
-    (λ c κs. search needs)
-    (λ c κs. search needs)
-    (λ c κs. search needs)
+    (λ c κs. let s = c .before .before in (s .pre .0 (omega arith), s .pre .1))
+    (λ c. search needs)
+    (λ c κs. let s = c .before .before .before in (s .pre .0 (omega arith), s .pre .1))
     returns
     returns-2
     returns-3

@@ -17,13 +17,13 @@ mod parts;
 mod pigeons;
 mod planes;
 mod row;
-mod show;
 mod slow_inputs;
 mod tables;
 mod worlds;
 
 use case::Measured;
 use families::Family;
+use hurnavis_comparison::show;
 use row::Row;
 use std::env;
 use std::fs::File;

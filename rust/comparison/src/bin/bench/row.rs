@@ -2,7 +2,7 @@
 
 use crate::case::Measured;
 use crate::families::Family;
-use crate::show;
+use hurnavis_comparison::show;
 use std::time::Duration;
 
 /// A decision that takes longer is an open case.

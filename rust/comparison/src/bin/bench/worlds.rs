@@ -5,8 +5,7 @@ use crate::families::{growing, Family};
 use crate::numbers::Literals;
 use crate::tables::{decide, facts, R};
 use hurnavis::Writer;
-use hurnavis_comparison::layout::{self, Record};
-use hurnavis_comparison::xorshift::Xorshift;
+use hurnavis_comparison::boards;
 
 pub const BOARDS: &[Family] = &[growing(
     "board of 63 counting entries and 64 worlds",
@@ -60,35 +59,12 @@ pub const CHOICES: &[Family] = &[
     ),
 ];
 
-/// Random links and facts, with a share of repetitions.
+/// Five relations.
 fn board(records: usize) -> Case {
-    let mut t = Writer::new();
-    let fact = t.fact(0);
-    for i in 1..64 {
-        let part = if i % 3 == 0 { i - 1 } else { fact };
-        let (grade, relation) = ((i % 7) as u8, (i % 5) as u8);
-        if i % 2 == 0 {
-            t.at_least(grade, relation, part);
-        } else {
-            t.at_most(grade, relation, part);
-        }
-    }
-    let mut random = Xorshift::new(1, records as u64);
-    let mut drawn = vec![Record::Header(63)];
-    while drawn.len() < records {
-        let world = random.below(64) as u8;
-        drawn.push(match random.below(10) {
-            0 => Record::Fact { world, name: 0 },
-            _ => Record::Link {
-                from: world,
-                relation: random.below(5) as u8,
-                to: random.below(64) as u8,
-            },
-        });
-    }
+    let board = boards::counting(records, 5);
     Case {
-        table: t.bytes(),
-        question: Question::Board(layout::pack_structure(&drawn)),
+        table: board.table,
+        question: Question::Board(board.structure),
     }
 }
 

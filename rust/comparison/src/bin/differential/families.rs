@@ -17,8 +17,9 @@ pub fn draw(random: &mut Xorshift) -> Input {
         47..=54 => nested_needs(random),
         55..=69 => entries(random),
         70..=74 => deep(random),
-        75..=79 => border(random),
-        80..=97 => damage::damaged(random),
+        75..=78 => border(random),
+        79..=82 => many_names(random),
+        83..=97 => damage::damaged(random),
         _ => damage::noise(random),
     }
 }
@@ -205,6 +206,30 @@ fn deep(random: &mut Xorshift) -> Input {
     }
     let answer = table.count() - random.between(1, 4);
     over(random, "chains", &table, (last, answer))
+}
+
+/// What a board asks of a structure: many facts and relations, of few names or of many, so that a fact and a relation often
+/// share one. Only a fact is decided on.
+fn many_names(random: &mut Xorshift) -> Input {
+    let names = random.pick(&[1, 2, 5, 20, 64, 256]);
+    let count = random.pick(&[2, 5, 10, 20, 40, 63, 64]);
+    let mut table = Writer::new();
+    table.fact(random.below(names) as u8);
+    while table.count() < count {
+        let (name, grade) = (
+            random.below(names) as u8,
+            random.pick(&[0, 1, 1, 2, 3, 64, 255]),
+        );
+        let (first, second) = (random.below(table.count()), random.below(table.count()));
+        match random.below(10) {
+            0..=1 => table.fact(name),
+            2 => table.not(first),
+            3 => table.or(first, second),
+            4..=6 => table.at_least(grade, name, first),
+            _ => table.at_most(grade, name, first),
+        };
+    }
+    over(random, "many names", &table, (0, 0))
 }
 
 /// Tables of 1, 64 and 65 entries, entry numbers and words at their borders.

@@ -67,7 +67,7 @@ fn structure(random: &mut Xorshift, table: &[u8]) -> Vec<u8> {
     };
     let facts = names(|e| e.kind == layout::FACT);
     let relations = names(|e| e.counts());
-    let worlds = random.pick(&[1, 2, 3, 3, 4, 5, 8, 63, 64]);
+    let worlds = random.pick(&[1, 2, 3, 3, 4, 5, 8, 16, 33, 63, 64]);
     let records = match random.below(40) {
         0 => layout::MOST_RECORDS,
         1 => 300,

@@ -1,0 +1,97 @@
+//! The boards that are compared and measured.
+
+use hurnavis::Writer;
+use hurnavis_comparison::boards::{counting, Board};
+use hurnavis_comparison::layout::{self, Record};
+
+/// Document 01's example build.
+pub const EXAMPLE: [u8; 21] = [
+    0x02, 0, 0, 0x41, 1, 0, 0x42, 1, 0, 0x42, 2, 0, 0x80, 7, 4, 0x80, 7, 8, 0x80, 7, 4,
+];
+
+/// Every board with its name.
+pub fn all() -> Vec<(&'static str, Board)> {
+    let many = counting(1024, 5);
+    let with = |structure| Board {
+        structure,
+        ..many.clone()
+    };
+    let (ringed, header_only) = (with(ring()), with(one_world()));
+    vec![
+        ("63 counting entries, 64 worlds, 1,024 records", many),
+        ("the same, the worlds in a ring", ringed),
+        ("the same with 63 relations", counting(1024, 63)),
+        ("63 counting entries, one world, one record", header_only),
+        ("64 facts, 64 worlds, no links", facts()),
+        ("two entries, one world, one record", two()),
+        ("one entry, one world, one record", one()),
+        ("document 01's example build, five entries", example()),
+    ]
+}
+
+/// 64 worlds in a ring, fact 0 at all but the last, and relation r from each world to the next r + 1.
+/// The program `board_vectors` knows the words on it by another way.
+fn ring() -> Vec<u8> {
+    let mut records = vec![Record::Header(63)];
+    records.extend((0..63).map(|world| Record::Fact { world, name: 0 }));
+    for (from, relation) in (0..64).flat_map(|w| (0..5).map(move |r| (w, r))) {
+        records.extend((1..=relation + 1).map(|step| Record::Link {
+            from,
+            relation,
+            to: (from + step) % 64,
+        }));
+    }
+    layout::pack_structure(&records)
+}
+
+/// A structure that is its header.
+fn one_world() -> Vec<u8> {
+    layout::pack_structure(&[Record::Header(0)])
+}
+
+/// Fact i at world i.
+fn facts() -> Board {
+    let mut t = Writer::new();
+    let mut records = vec![Record::Header(63)];
+    for i in 0..64 {
+        t.fact(i);
+        records.push(Record::Fact { world: i, name: i });
+    }
+    Board {
+        table: t.bytes(),
+        structure: layout::pack_structure(&records),
+    }
+}
+
+fn two() -> Board {
+    let mut t = Writer::new();
+    let yes = t.truth();
+    t.at_least(1, 7, yes);
+    Board {
+        table: t.bytes(),
+        structure: one_world(),
+    }
+}
+
+/// The least that a board can be.
+fn one() -> Board {
+    let mut t = Writer::new();
+    t.truth();
+    Board {
+        table: t.bytes(),
+        structure: one_world(),
+    }
+}
+
+/// Document 01's M1 and M3, and both at once.
+fn example() -> Board {
+    let mut t = Writer::new();
+    let (one, two) = (t.fact(1), t.fact(2));
+    let m1 = t.at_least(2, 7, one);
+    let m3 = t.at_most(1, 7, two);
+    t.and(m1, m3);
+    Board {
+        table: t.bytes(),
+        structure: EXAMPLE.to_vec(),
+    }
+}
