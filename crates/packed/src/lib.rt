@@ -1,7 +1,7 @@
 // What packed tables and packed structures share: the numbers that their bytes spell, and lists read without a bound.
 ghost use mathlib.Core.Path.{_≡_};
-ghost use Prim.Native.Nat.{_*_, _^_, _<_, _≤_};
-ghost use lib.ListN.{getD};
+ghost use Prim.Native.Nat.{_+_, _*_, _^_, _<_, _≤_};
+ghost use lib.ListN.{length, getD};
 ghost use Rattle.packed.specs.Bytes.{bigEndian};
 
 // The byte at a place, 0 past the end.
@@ -15,6 +15,20 @@ pub fn byte_at(bytes: &[u8], at: usize) -> u32
     }
 }
 
+// The number that `width` bytes from a place on spell, none of which is missing: no byte is tested for that.
+fn whole(bytes: &[u8], width: usize, at: usize) -> u64
+    requires { ⌜ (width ≤ 8) × (at + width ≤ length (now bytes)) ⌝ }
+    ensures { λ r. ⌜ (r ≡ bigEndian (now (bytes .entry)) at width) × (r < 256 ^ width) ⌝ }
+{
+    let mut number: u64 = 0;
+    let mut k = 0;
+    while k < width {
+        number = number * 256 + bytes[at + k] as u64;
+        k += 1;
+    }
+    number
+}
+
 // The number that the i-th `width` bytes spell, the first byte highest. A byte past the end counts as 0.
 pub fn big_endian(bytes: &[u8], width: usize, i: usize) -> u64
     requires { ⌜ (1 ≤ width) × (width ≤ 8) ⌝ }
@@ -25,6 +39,9 @@ pub fn big_endian(bytes: &[u8], width: usize, i: usize) -> u64
         return 0;
     }
     let at = width * i;
+    if width <= bytes.len() - at {
+        return whole(bytes, width, at);
+    }
     let mut number: u64 = 0;
     let mut k = 0;
     while k < width {

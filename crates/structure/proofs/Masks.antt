@@ -17,7 +17,7 @@ use Rattle.sets.proofs.Words.{word-ext, word-none, word-one}
 use Rattle.structure.specs.declared.record.Record.{Record}
 use Rattle.structure.specs.Record.{recordAt, records, worldsOf}
 use Rattle.structure.specs.Read.{stated, structureOf}
-use Rattle.structure.specs.Masks.{widthOf, maskOf, statedBy, keyOf, placeOf, Layout, Placed, Gained}
+use Rattle.structure.specs.Masks.{widthOf, maskOf, statedBy, keyOf, placeOf, Layout, Gained}
 use Rattle.structure.specs.Check.{structureVerdict}
 use Rattle.structure.proofs.Accepted.{Within, header-first}
 use Rattle.structure.proofs.Stated.{some-none, someWord}

@@ -1,9 +1,8 @@
 // Where the masks of a table stand: a place for each fact and each relation that its entries ask for, given out once.
 ghost use mathlib.Core.Path.{_≡_};
-ghost use mathlib.Core.Bool.{Bool};
 ghost use Prim.Native.Nat.{ℕ, _+_, _*_, _≤_, _<_};
 ghost use lib.ListN.{length, getD};
-ghost use Rattle.structure.specs.Masks.{placeOf, Layout};
+ghost use Rattle.structure.specs.Masks.{Layout};
 ghost use Rattle.table.specs.Entry.{entryAt, size};
 ghost use Rattle.truth_table.specs.Masks.{Laid, Extended};
 use packed::short_at;

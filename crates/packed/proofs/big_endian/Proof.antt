@@ -1,4 +1,5 @@
--- `big_endian` meets its contract. The invariant: the number is what the bytes passed spell, and fits as many bytes.
+-- `big_endian` meets its contract. Where a byte is missing there is a loop. Its invariant: the number is what the bytes passed
+-- spell, and fits as many bytes.
 use mathlib.Core.Path.{_≡_, refl, sym}
 use Prim.Native.Nat.{_*_, _^_, _-_, _≤_, _<_}
 use native.Mathlib.Nat.{mul-comm, le-div-iff-mul-le, div-lt-iff-lt-mul, one-le-pow, pow-le-pow-right, lt-of-lt-of-le}
@@ -37,7 +38,7 @@ loop-holds c = (search needs, refl, search needs)
 -- the bytes passed leave room for one more
 small : (c : tie.In-loop Inv-loop μ-loop) → c .before .loop .number < 2 ^ 56
 small c =
-    let most : c .before .loop .k ≤ 7 = omega (arith, c .before .before .before .before .pre) in
+    let most : c .before .loop .k ≤ 7 = omega (arith, c .before .before .before .before .before .pre) in
     lt-of-lt-of-le (c .before .loop .inv .2) (pow-le-pow-right (lit< tt) most)
 
 loop-again : tie.Need-loop-again Inv-loop μ-loop
@@ -46,9 +47,9 @@ loop-again c =
     let l = c .before .before .loop in
     (search needs, rw (add-one (l .k)) cc, rw (add-one (l .k)) (byte-more (l .k) (l .inv .2) (c .byte-at .ensures .1)))
 
-returns-2 : tie.Need-returns-2 Inv-loop μ-loop
-returns-2 c =
-    let e : c .before .loop .k ≡ c .before .before .before .before .args .width = omega arith in
+returns-3 : tie.Need-returns-3 Inv-loop μ-loop
+returns-3 c =
+    let e : c .before .loop .k ≡ c .before .before .before .before .before .args .width = omega arith in
     (rw e at (c .before .loop .inv .1), rw e at (c .before .loop .inv .2))
 
 pub big-endian-spec : {M : Type 1} → statement M
@@ -60,13 +61,16 @@ big-endian-spec =
     (λ c. search needs)
     returns
     (λ c. let h = place c in search needs)
+    (λ c. let h = place c in search needs)
+    (λ c κs. let h = place (c .before) in (search needs, omega (arith, h, c .if2 .taken)))
+    (λ c. c .whole .ensures)
     loop-holds
     (λ c. let h = small c in search needs)
-    (λ c. let h = place (c .before .before) in search needs)
+    (λ c. let h = place (c .before .before .before) in search needs)
     (λ c κs. search needs)
     (λ c. search needs)
     (λ c. let h = small (c .before) in search needs)
     (λ c. search needs)
     (λ c. search needs)
     loop-again
-    returns-2)
+    returns-3)

@@ -1,8 +1,7 @@
 -- `fill_laid` meets its contract: an accepted table has 64 entries at most, and the places are zeros at first.
-use mathlib.Core.Path.{_≡_, refl, sym}
+use mathlib.Core.Path.{refl, sym}
 use borrow.Author.Needs.{needs}
 use Rattle.packed.proofs.Zeros.{zeros-at}
-use Rattle.structure.specs.Read.{structureOf}
 use Rattle.table.proofs.Accepted.{accepted-small}
 use Rattle.truth_table.specs.Masks.{LaidOut}
 use Rattle.truth_table.proofs.fill_laid.Statement.{statement}

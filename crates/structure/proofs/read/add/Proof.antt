@@ -2,7 +2,6 @@
 use mathlib.Core.Path.{_≡_, refl}
 use Prim.Native.Nat.{_+_, _<_}
 use native.Mathlib.Nat.{one-mul, mod-eq-of-lt}
-use native.Mathlib.Omega.{arith}
 use lib.Pow.{pow-lt}
 use lib.ListN.{length}
 use borrow.Author.Needs.{needs}

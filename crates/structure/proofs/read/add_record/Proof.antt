@@ -1,7 +1,5 @@
 -- `add_record` meets its contract: a record of kind 1 speaks of a fact, one of kind 2 of a relation, and no other speaks.
-use mathlib.Core.Path.{_≡_}
 use mathlib.Core.Bool.{true, false}
-use Prim.Native.Nat.{_<_}
 use native.Mathlib.Omega.{arith}
 use borrow.Author.Needs.{needs}
 use Rattle.structure.specs.Record.{recordAt, worldsOf}

@@ -1,14 +1,13 @@
 -- `place_entry` meets its contract: a kind asks for a fact or for a relation or for nothing, and the row is looked up where it now is.
-use mathlib.Core.Path.{_≡_, sym, _∙_}
+use mathlib.Core.Path.{_≡_, sym}
 use mathlib.Core.Bool.{Bool, true, false}
-use Prim.Native.Nat.{ℕ, _≤_, _<_}
+use Prim.Native.Nat.{_<_}
 use native.Mathlib.Omega.{arith}
 use lib.Dec.{leb}
 use borrow.Author.Needs.{needs}
 use borrow.Author.Tests.{ltb-true, le-leb}
 use Rattle.table.specs.declared.entry.Entry.{Entry}
 use Rattle.table.specs.Entry.{entryAt}
-use Rattle.structure.specs.Masks.{placeOf}
 use Rattle.truth_table.specs.Masks.{Asks}
 use Rattle.truth_table.proofs.Placing.{laid-skip, laid-more}
 use Rattle.truth_table.proofs.Served.{named}
