@@ -11,11 +11,22 @@ use vectors::tally::Tally;
 
 const ALL: u64 = 0xffff_ffff_ffff_ffff;
 
-// Fact 0 at every world but the last.
+// The worlds where fact 0 holds, without a pattern. World 5 is one of them, the last is none.
+const FACT: u64 = 0x1e37_79b9_7f4a_7c35;
+
+// Fact 0 at world i, or again at world 5.
+fn with_fact(records: Records, i: u32) -> Records {
+    if (FACT >> i % 64) & 1 == 1 {
+        records.fact(i, 0)
+    } else {
+        records.fact(5, 0)
+    }
+}
+
 fn with_facts() -> Records {
     let mut records = Records::of(64);
-    for world in 0..63 {
-        records = records.fact(world, 0);
+    for i in 0..63 {
+        records = with_fact(records, i);
     }
     records
 }
@@ -67,13 +78,13 @@ fn least(part: u64, worlds: u32, grade: u32) -> u64 {
 
 // Entry i, from 1 on: grades up to 6, at least in turn with at most, over fact 0 or, for every third entry, over the one
 // before it, whose word is `last`.
-fn with_entry(rows: Rows, i: u32, of_fact: u64, last: u64) -> Rows {
+fn with_entry(rows: Rows, i: u32, last: u64) -> Rows {
     let first = if i % 3 == 0 {
         std::num::wrapping_sub_u32(i, 1)
     } else {
         0
     };
-    let part = if i % 3 == 0 { last } else { of_fact };
+    let part = if i % 3 == 0 { last } else { FACT };
     let worlds = i % 5 + 1;
     if i % 2 == 0 {
         rows.entry(at_least(i % 7, i % 5, first), least(part, worlds, i % 7))
@@ -86,11 +97,10 @@ fn with_entry(rows: Rows, i: u32, of_fact: u64, last: u64) -> Rows {
 }
 
 fn counting() -> Rows {
-    let of_fact = 0x7fff_ffff_ffff_ffff;
-    let mut rows = Rows::none().entry(fact(0), of_fact);
-    let mut last: u64 = of_fact;
+    let mut rows = Rows::none().entry(fact(0), FACT);
+    let mut last: u64 = FACT;
     for i in 1..64 {
-        rows = with_entry(rows, i, of_fact, last);
+        rows = with_entry(rows, i, last);
         last = rows.words[i as usize];
     }
     rows

@@ -5,10 +5,10 @@ use Rattle.board_vectors.proofs.rings.counting.Statement.{statement}
 use Rattle.board_vectors.proofs.rings.counting.Tie as tie
 
 abbrev Inv-loop : tie.InvT-loop
-Inv-loop of-fact rows₀ last₀ i₀ rows last i = Unit {0}
+Inv-loop rows₀ last₀ i₀ rows last i = Unit {0}
 
 abbrev μ-loop : tie.MeasureT-loop
-μ-loop of-fact rows₀ last₀ i₀ rows last i = 64 - i
+μ-loop rows₀ last₀ i₀ rows last i = 64 - i
 
 pub counting-spec : {M : Type 1} → statement M
 counting-spec =
