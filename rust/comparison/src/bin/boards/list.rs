@@ -23,7 +23,9 @@ pub fn all() -> Vec<(&'static str, Board)> {
         ("the same with 63 relations", counting(1024, 63)),
         ("63 counting entries, one world, one record", header_only),
         ("64 facts, 64 worlds, no links", facts()),
-        ("two entries, one world, one record", two()),
+        ("eight relations, 64 worlds, three records", relations()),
+        ("two entries, one world, one link", two(linked())),
+        ("two entries, one world, one record", two(one_world())),
         ("one entry, one world, one record", one()),
         ("document 01's example build, five entries", example()),
     ]
@@ -69,13 +71,40 @@ fn facts() -> Board {
     }
 }
 
-fn two() -> Board {
+/// Far more is asked than stated.
+fn relations() -> Board {
+    let mut t = Writer::new();
+    let fact = t.fact(0);
+    (0..8).for_each(|relation| {
+        t.at_least(1, relation, fact);
+    });
+    let (fact, link) = (Record::Fact { world: 1, name: 0 }, link(7, 1));
+    Board {
+        table: t.bytes(),
+        structure: layout::pack_structure(&[Record::Header(63), fact, link]),
+    }
+}
+
+/// One world that leads to itself.
+fn linked() -> Vec<u8> {
+    layout::pack_structure(&[Record::Header(0), link(7, 0)])
+}
+
+fn link(relation: u8, to: u8) -> Record {
+    Record::Link {
+        from: 0,
+        relation,
+        to,
+    }
+}
+
+fn two(structure: Vec<u8>) -> Board {
     let mut t = Writer::new();
     let yes = t.truth();
     t.at_least(1, 7, yes);
     Board {
         table: t.bytes(),
-        structure: one_world(),
+        structure,
     }
 }
 
