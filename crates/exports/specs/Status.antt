@@ -7,6 +7,8 @@ use Rattle.decision.specs.declared.Decision.{Decision}
 use Rattle.decision.specs.Decide.{DecisionIs, numberOf as decided, refusal as decisionRefusal}
 use Rattle.mark.specs.declared.Marking.{Marking}
 use Rattle.mark.specs.Mark.{MarkingIs, markingNumber, refusal as markRefusal}
+use Rattle.typed.specs.declared.Reading.{Reading}
+use Rattle.typed.specs.Reading.{ReadingIs, numberOf as readingNumber, refusal as readingRefusal}
 
 -- the number at the lent place after a call with this status: its answer's, or the one that was there
 abbrev pub placed : (status answer before : ℕ) → ℕ
@@ -22,3 +24,8 @@ DecisionTold bytes e before after place place′ status =
 abbrev pub MarkTold : List ℕ → (model answer : ℕ) → (before after : List ℕ) → (place place′ : ℕ) → ℕ → Type 0
 MarkTold bytes model answer before after place place′ status =
     (r : Marking) × MarkingIs bytes model answer before after r × (status ≡ markRefusal r) × (place′ ≡ placed status (markingNumber r) place)
+
+-- the same of a typed answer; the bytes are as the call leaves them
+abbrev pub ReadingTold : (text before after : List ℕ) → (place place′ : ℕ) → ℕ → Type 0
+ReadingTold text before after place place′ status =
+    (r : Reading) × ReadingIs text before after r × (status ≡ readingRefusal r) × (place′ ≡ placed status (readingNumber r) place)

@@ -6,10 +6,11 @@ ghost use Rattle.faults.specs.Verdict.{refusal};
 ghost use Rattle.table.specs.Check.{tableVerdict};
 ghost use Rattle.truth_table.specs.Board.{boardVerdict, BoardAfter};
 ghost use Rattle.decision.specs.Call.{pairThere, pairWork};
-ghost use Rattle.exports.specs.Status.{placed, DecisionTold, MarkTold};
+ghost use Rattle.exports.specs.Status.{placed, DecisionTold, MarkTold, ReadingTold};
 use decision::Decision;
 use decision::call::Needed;
 use mark::Marking;
+use typed::Reading;
 
 // Whether the table is accepted.
 #[no_mangle]
@@ -91,5 +92,20 @@ pub extern "C" fn hurnavis_mark(
             0
         }
         Marking::Refused(fault) => fault.number() as u32,
+    }
+}
+
+// Reads a typed answer and writes its table; how many entries it has.
+#[no_mangle]
+pub extern "C" fn hurnavis_read_text(text: &[u8], table: &mut [u8], entries: &mut u8) -> u32
+    ensures { λ r. ⌜ ReadingTold (now (text .entry)) (now (table .entry)) (now (table .exit))
+        (now (entries .entry)) (now (entries .exit)) r ⌝ }
+{
+    match hurnavis::read_text(text, table) {
+        Reading::Entries(n) => {
+            *entries = n as u8;
+            0
+        }
+        Reading::Refused(fault) => fault.number() as u32,
     }
 }

@@ -3,7 +3,8 @@
 ghost use mathlib.Core.Path.{_≡_};
 ghost use Rattle.faults.specs.Verdict.{numberOf, refusal};
 
-// One case for each number of document 01, in its order. 5 is no fault's number: document 02, P4, took it out.
+// One case for each number of document 01, in its order, and of document 02 from 11 on. 5 is no fault's number: document 02, P4,
+// took it out.
 pub enum Fault {
     TableLength,
     Kind,
@@ -14,6 +15,8 @@ pub enum Fault {
     World,
     EntryNumber,
     Space,
+    TextGrammar,
+    TextLimit,
 }
 
 // What a check answers: the input is within the limits, or the first fault in document 01's order.
@@ -23,7 +26,7 @@ pub enum Verdict {
 }
 
 impl Fault {
-    // The number that document 01 lists for the fault.
+    // The number that the documents list for the fault.
     pub fn number(self) -> u8
         ensures { λ r. ⌜ r ≡ numberOf self ⌝ }
     {
@@ -37,6 +40,8 @@ impl Fault {
             Fault::World => 8,
             Fault::EntryNumber => 9,
             Fault::Space => 10,
+            Fault::TextGrammar => 11,
+            Fault::TextLimit => 12,
         }
     }
 }

@@ -1,2 +1,4 @@
 -- what the promises of the calls come to: each answer exactly when
 pub mod Demands
+-- typed answers: each refusal exactly when, and what the table means
+pub mod Typed

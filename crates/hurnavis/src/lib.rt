@@ -7,16 +7,27 @@ ghost use Rattle.decision.specs.Call.{NeededIs};
 ghost use Rattle.decision.specs.Decide.{DecisionIs};
 ghost use Rattle.mark.specs.Mark.{MarkingIs};
 ghost use Rattle.truth_table.specs.Board.{boardVerdict, BoardAfter};
+ghost use Rattle.typed.specs.Reading.{ReadingIs};
 use decision::Decision;
 use decision::call::Needed;
 use faults::Verdict;
 use mark::Marking;
+use typed::Reading;
 
 // Whether a table is accepted; if not, its first fault in document 01's order, a number from 1 to 4.
 pub fn check_table(table: &[u8]) -> Verdict
     ensures { λ r. ⌜ r ≡ tableVerdict (now (table .entry)) ⌝ }
 {
     table::checking::check(table)
+}
+
+// Reads a typed answer (document 02, P1) and writes its table: operands before their sign, left before right, so that the last entry
+// means what the text says. Answers how many entries it wrote; the bytes behind them stay as they were. Refuses with 11 for a text
+// outside the grammar, 12 for one over a limit, or 10 for too few bytes, and then leaves all bytes as they were.
+pub fn read_text(text: &[u8], table: &mut [u8]) -> Reading
+    ensures { λ r. ⌜ ReadingIs (now (text .entry)) (now (table .entry)) (now (table .exit)) r ⌝ }
+{
+    typed::read(text, table)
 }
 
 // The words that a mark of two entries has to be lent, document 01's W; for a decision one entry is given twice. Refuses with a

@@ -4,3 +4,5 @@ pub mod Zeros
 pub mod Filling
 -- numbers that bytes spell
 pub mod Bytes
+-- bytes that are written from the last to the first
+pub mod Putting

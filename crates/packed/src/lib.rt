@@ -2,7 +2,7 @@
 ghost use mathlib.Core.Path.{_≡_};
 ghost use Prim.Native.Nat.{_+_, _*_, _^_, _<_, _≤_};
 ghost use lib.ListN.{length, getD};
-ghost use Rattle.packed.specs.Bytes.{bigEndian};
+ghost use Rattle.packed.specs.Bytes.{bigEndian, Put};
 
 // The byte at a place, 0 past the end.
 pub fn byte_at(bytes: &[u8], at: usize) -> u32
@@ -49,6 +49,21 @@ pub fn big_endian(bytes: &[u8], width: usize, i: usize) -> u64
         k += 1;
     }
     number
+}
+
+// Writes a number as the i-th `width` bytes, the first byte highest.
+pub fn put(bytes: &mut [u8], width: usize, i: usize, number: u64)
+    requires { ⌜ (width * i + width ≤ length (now bytes)) × (number < 256 ^ width) ⌝ }
+    ensures { λ r. ⌜ Put (width * i) width number (now (bytes .entry)) (now (bytes .exit)) ⌝ }
+{
+    let at = width * i;
+    let mut rest = number;
+    let mut k = width;
+    while 0 < k {
+        k -= 1;
+        bytes[at + k] = (rest % 256) as u8;
+        rest /= 256;
+    }
 }
 
 // The 64-bit word at a place, 0 past the end.

@@ -1,6 +1,8 @@
 // Entries: the packed 32-bit word, and its fields.
 ghost use mathlib.Core.Path.{_≡_};
-ghost use Rattle.table.specs.Entry.{entryOf, wordAt, entryAt};
+ghost use Prim.Native.Nat.{_+_, _*_, _≤_};
+ghost use lib.ListN.{length};
+ghost use Rattle.table.specs.Entry.{entryOf, wordAt, entryAt, Packable, PutEntry};
 use packed::big_endian;
 
 // The fields of an entry. A field that its kind does not use means nothing.
@@ -25,6 +27,14 @@ impl Entry {
             grade: word & 255,
         }
     }
+
+    // The 32-bit entry with these fields.
+    pub fn pack(self) -> u32
+        requires { ⌜ Packable self ⌝ }
+        ensures { λ r. ⌜ entryOf r ≡ self ⌝ }
+    {
+        (((self.kind * 256 + self.name) * 64 + self.first) * 64 + self.second) * 256 + self.grade
+    }
 }
 
 // Entry i of a table, packed; 0 past the table's end.
@@ -39,4 +49,12 @@ pub fn entry_at(table: &[u8], i: usize) -> Entry
     ensures { λ r. ⌜ r ≡ entryAt (now (table .entry)) i ⌝ }
 {
     Entry::unpack(word_at(table, i))
+}
+
+// Writes entry i of a table.
+pub fn put(table: &mut [u8], i: usize, e: Entry)
+    requires { ⌜ Packable e × (4 * i + 4 ≤ length (now table)) ⌝ }
+    ensures { λ r. ⌜ PutEntry i e (now (table .entry)) (now (table .exit)) ⌝ }
+{
+    packed::put(table, 4, i, e.pack() as u64);
 }

@@ -1,0 +1,35 @@
+-- `stands_at` meets its contract: each arm is a sign by its first byte, and no sign begins with another byte.
+use mathlib.Core.Path.{refl}
+use native.Mathlib.Omega.{arith}
+use Rattle.grammar.specs.declared.Leaf.{Leaf}
+use Rattle.grammar.specs.declared.Prefix.{Prefix}
+use Rattle.grammar.specs.declared.Join.{Join}
+use Rattle.grammar.specs.declared.Sign.{Sign}
+use Rattle.grammar.proofs.Text.{unknown}
+use borrow.Author.Needs.{needs}
+use Rattle.grammar.proofs.lexer.stands_at.Statement.{statement}
+use Rattle.grammar.proofs.lexer.stands_at.Tie as tie
+
+returns-11 : tie.Need-returns-11
+returns-11 c = unknown _ _ (rw (c .before .byte-at .ensures .0) at (c .match .rest))
+
+pub stands-at-spec : {M : Type 1} → statement M
+stands-at-spec =
+    tie.close
+    (tie.spec
+    (λ c. search needs)
+    (λ c κs. search needs)
+    (λ c κs. search needs)
+    (λ c κs. search needs)
+    (λ c κs. search needs)
+    (λ c. (Sign.Alone Leaf.True, refl, (omega arith, refl), tt, omega arith, refl))
+    (λ c. (Sign.Alone Leaf.False, refl, (omega arith, refl), tt, omega arith, refl))
+    (λ c. search needs)
+    (λ c. (Sign.Before Prefix.Not, refl, (omega arith, refl), tt, omega arith, refl))
+    (λ c. search needs)
+    (λ c. search needs)
+    (λ c. (Sign.Between Join.And, refl, (omega arith, refl), tt, omega arith, refl))
+    (λ c. (Sign.Between Join.Or, refl, (omega arith, refl), tt, omega arith, refl))
+    (λ c. (Sign.Open, refl, (omega arith, refl), tt, omega arith, refl))
+    (λ c. (Sign.Close, refl, (omega arith, refl), tt, omega arith, refl))
+    returns-11)

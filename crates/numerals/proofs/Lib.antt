@@ -1,0 +1,2 @@
+-- what a loop over digits knows, and that a whole numeral is unique
+pub mod Digits

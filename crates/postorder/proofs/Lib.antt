@@ -1,0 +1,2 @@
+-- such a table means its formula, and is accepted
+pub mod Meaning

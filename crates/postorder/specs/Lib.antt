@@ -1,0 +1,2 @@
+-- the order of a formula's entries
+pub mod Order
