@@ -114,6 +114,34 @@ static void places_of_answers(void)
     EXPECT(place[0] == 9 && place[2] == 9);
 }
 
+static uint32_t read_text(const char *text, uint8_t *table, size_t table_len, uint8_t *entries)
+{
+    return hurnavis_read_text((const uint8_t *)text, strlen(text), table, table_len, entries);
+}
+
+/* A model and an answer in one text, with room for one byte more than the table, and a refusal of each number. */
+static void texts(void)
+{
+    static const uint8_t packed[] = {
+        HURNAVIS_FACT(1), HURNAVIS_AT_LEAST(2, 7, 0), HURNAVIS_FACT(12), HURNAVIS_NOT(2), HURNAVIS_TRUTH,
+        HURNAVIS_AND(3, 4), HURNAVIS_FALSITY, HURNAVIS_OR(5, 6), HURNAVIS_AT_MOST(0, 255, 7), HURNAVIS_AND(1, 8)
+    };
+    static const char text[] = "(>=2 r7 n1)&(<=0r255(!n12 & T | F))", cut[] = "(>=2 r7 n1)&", great[] = "n1 & n256";
+    uint8_t table[sizeof packed + 1], before[sizeof table], place[] = {9, 9, 9};
+
+    memset(before, 0xa5, sizeof before);
+    memcpy(table, before, sizeof table);
+    EXPECT(read_text("", table, sizeof table, place + 1) == HURNAVIS_TEXT_GRAMMAR);
+    EXPECT(read_text(cut, table, sizeof table, place + 1) == HURNAVIS_TEXT_GRAMMAR);
+    EXPECT(read_text(great, table, sizeof table, place + 1) == HURNAVIS_TEXT_LIMIT);
+    EXPECT(read_text(text, table, sizeof packed - 1, place + 1) == HURNAVIS_SPACE && place[1] == 9);
+    SAME(table, before);
+    EXPECT(read_text(text, table, sizeof table, place + 1) == 0 && place[1] == 10);
+    EXPECT(memcmp(table, packed, sizeof packed) == 0 && table[sizeof packed] == 0xa5);
+    EXPECT(hurnavis_check_table(table, sizeof packed) == 0);
+    EXPECT(place[0] == 9 && place[2] == 9);
+}
+
 int main(void)
 {
     SAME(every_kind, every_kind_packed);
@@ -123,5 +151,6 @@ int main(void)
     deepest();
     refusals_of_structures();
     places_of_answers();
+    texts();
     return faults;
 }

@@ -8,7 +8,8 @@
  *
  * - A slice is a pointer and a length, counted in elements. No pointer is null, also where the length is 0.
  * - A pointer to uint64_t is aligned as that type is.
- * - What is lent for writing (words, and the place of the answer) overlaps nothing else that the same call takes.
+ * - What is lent for writing (words, bytes for a table, and the place of the answer) overlaps nothing else that the same call
+ *   takes.
  * - No call allocates, keeps a pointer or keeps any state: threads may call at the same time, each with words of its own.
  *   Of the stack, no call that was tried took 512 KiB.
  */
@@ -24,7 +25,7 @@ extern "C" {
 #endif
 
 /* The refusals. The first fault in order counts: 1; then entry by entry 2, 3, 4; then 6; then record by record 7, 8; then 9;
- * then 10. A call skips what it does not take. Later calls add refusals. 5 is unused. */
+ * then 10. A call skips what it does not take. Of a text: 11; then 12; then 10. Later calls add refusals. 5 is unused. */
 #define HURNAVIS_TABLE_LENGTH 1u     /* the table's length is 0, over 256 bytes, or not a multiple of 4 */
 #define HURNAVIS_KIND 2u             /* an entry's kind is over 7 */
 #define HURNAVIS_UNUSED_FIELD 3u     /* a field that the entry's kind does not use is not 0 */
@@ -33,7 +34,9 @@ extern "C" {
 #define HURNAVIS_RECORD 7u           /* the first record is no header, a later one is, a kind is 3, or a zero bit is 1 */
 #define HURNAVIS_WORLD 8u            /* a world is not below the number of worlds */
 #define HURNAVIS_ENTRY_NUMBER 9u     /* an entry number is not below the number of entries */
-#define HURNAVIS_SPACE 10u           /* the lent words are fewer than the call needs */
+#define HURNAVIS_SPACE 10u           /* the lent words, or bytes for a table, are fewer than the call needs */
+#define HURNAVIS_TEXT_GRAMMAR 11u    /* the text is outside the grammar; the empty text is */
+#define HURNAVIS_TEXT_LIMIT 12u      /* the text is over 1,024 bytes, has a number over 255, or makes over 64 entries */
 
 /* The marks: how an answer that holds somewhere stands to the model; 4 is that of an answer that holds nowhere. */
 #define HURNAVIS_EQUAL 0u      /* they hold at the same worlds of every finite structure */
@@ -93,6 +96,18 @@ uint32_t hurnavis_decide(const uint8_t *table, size_t table_len, size_t entry, u
 /* Gives the mark of the answer's entry beside the model's. Words and refusals are as for hurnavis_decide. */
 uint32_t hurnavis_mark(const uint8_t *table, size_t table_len, size_t model, size_t answer, uint64_t *words,
                        size_t words_len, uint8_t *mark);
+
+/* Reads a typed description, such as >=2 r7 (n1 & !n2), into a table of its own, and gives the number of entries; the last is
+ * the description. The signs: T true, F false, n12 fact 12, ! not, & and, | or, >=2 r7 and <=2 r7 at least and at most 2 links
+ * of relation 7, round brackets. ! and the counting signs stand before their part and bind closest, then &, then |; equal signs
+ * group leftwards. Around signs there may be spaces (byte 32), or none; >=2 and r7 are two signs, and no space is in one.
+ * Numbers are decimal without a leading zero. Each sign but the brackets makes an entry, >=2 r7 together one; parts stand before
+ * their sign and left before right, nothing is shared. Bytes behind the table are as before; 256 are always enough. Refuses 11,
+ * then 12, and 10 for fewer bytes than 4 for each entry.
+ *
+ * To have two texts in one table, read them as one, (model)&(answer): the answer is then the last entry but one, and the model
+ * has the number that it has when it is read alone. */
+uint32_t hurnavis_read_text(const uint8_t *text, size_t text_len, uint8_t *table, size_t table_len, uint8_t *entries);
 
 #ifdef __cplusplus
 }

@@ -4,12 +4,14 @@
 //! - [`independent`]: the calls once more, by another method.
 //! - [`layout`]: the packed formats and the words needed, read here a second time; nothing of it is the package `hurnavis`.
 //! - [`show`]: times and ratios in words.
+//! - [`trial`]: what the programs share that try random inputs.
 //! - [`xorshift`]: a seeded generator for random inputs.
 //!
-//! The programs `differential`, `boards`, `deepest`, `bench` and `slowest` stand in `src/bin`.
+//! The programs `differential`, `texts`, `boards`, `deepest`, `bench` and `slowest` stand in `src/bin`.
 
 pub mod boards;
 pub mod independent;
 pub mod layout;
 pub mod show;
+pub mod trial;
 pub mod xorshift;

@@ -6,8 +6,8 @@ use std::fmt;
 /// Why a call was refused. A refused call changes nothing that was lent to it.
 ///
 /// The first fault in order counts: 1; then entry by entry 2, 3, 4; then 6; then record by record 7, 8; then 9; then 10. A call
-/// skips what it does not take. Later calls add faults. No fault has the number 5: it was for depths over 63, which no table has
-/// that is accepted otherwise.
+/// skips what it does not take. The faults of a typed text are in the order 11, 12, 10. Later calls add faults. No fault has the
+/// number 5: it was for depths over 63, which no table has that is accepted otherwise.
 ///
 /// ```
 /// use hurnavis::{check_table, Fault};
@@ -37,12 +37,17 @@ pub enum Fault {
     World = 8,
     /// 9: an entry number that is not below the number of entries.
     EntryNumber = 9,
-    /// 10: fewer lent words than the call needs: [`work_words`](crate::work_words), or for the board one for each entry.
+    /// 10: fewer lent words than the call needs: [`work_words`](crate::work_words), or for the board one for each entry. For
+    /// [`read_text`](crate::read_text), fewer lent bytes than 4 for each entry.
     Space = 10,
+    /// 11: a text outside the grammar of [`read_text`](crate::read_text), the empty text included.
+    TextGrammar = 11,
+    /// 12: a text of over 1,024 bytes, with a number over 255 or with over 64 entries.
+    TextLimit = 12,
 }
 
 /// Every fault, in the order of the numbers.
-const ALL: [Fault; 9] = [
+const ALL: [Fault; 11] = [
     Fault::TableLength,
     Fault::Kind,
     Fault::UnusedField,
@@ -52,6 +57,8 @@ const ALL: [Fault; 9] = [
     Fault::World,
     Fault::EntryNumber,
     Fault::Space,
+    Fault::TextGrammar,
+    Fault::TextLimit,
 ];
 
 impl Fault {
@@ -82,7 +89,11 @@ impl Fault {
             }
             Fault::World => "a record names a world that the structure does not have",
             Fault::EntryNumber => "the table has no entry with the number that the call asks about",
-            Fault::Space => "the lent words are fewer than the call needs",
+            Fault::Space => "the lent words or bytes are fewer than the call needs",
+            Fault::TextGrammar => "the text is empty, or not written as descriptions are",
+            Fault::TextLimit => {
+                "the text is over 1,024 bytes long, has a number over 255, or makes over 64 entries"
+            }
         }
     }
 }
@@ -101,11 +112,11 @@ mod tests {
 
     #[test]
     fn numbers_go_both_ways() {
-        for (number, fault) in [1, 2, 3, 4, 6, 7, 8, 9, 10].into_iter().zip(ALL) {
+        for (number, fault) in [1, 2, 3, 4, 6, 7, 8, 9, 10, 11, 12].into_iter().zip(ALL) {
             assert_eq!(fault.number(), number);
             assert_eq!(Fault::from_number(number), Some(fault));
         }
-        for unused in [0, 5, 11] {
+        for unused in [0, 5, 13] {
             assert_eq!(Fault::from_number(unused), None);
         }
     }

@@ -25,6 +25,8 @@
 //! ```
 //!
 //! - [`Writer`] writes tables of descriptions, [`StructureWriter`] structures.
+//! - [`read_text`] reads a description that somebody typed, such as `>=2 r7 (n1 & !n2)`; [`Writer::text`] does so into a table
+//!   that is being written, and [`print_text`] goes the other way.
 //! - [`decide`] and [`mark`] answer; [`work_words`] says how many words to lend to them.
 //! - [`board`] says at which worlds of one structure the descriptions hold.
 //! - A call that is refused returns a [`Fault`], which says in words what is wrong. It has then changed nothing.
@@ -36,16 +38,19 @@
 #![deny(unsafe_code)]
 #![warn(missing_docs)]
 
+mod entry;
 mod fault;
 mod mark;
 #[allow(unsafe_code)]
 pub mod raw;
 mod structure;
+mod text;
 mod writer;
 
 pub use fault::Fault;
 pub use mark::Mark;
 pub use structure::StructureWriter;
+pub use text::print_text;
 pub use writer::Writer;
 
 /// Checks a table. The other calls check it too; this one is for who wants to know before.
@@ -158,6 +163,47 @@ pub fn mark(table: &[u8], model: usize, answer: usize, words: &mut [u64]) -> Res
     accepted(raw::mark(table, model, answer, words, &mut number))?;
     Ok(Mark::from_number(number)
         .unwrap_or_else(|| panic!("a mark {number}: the archive is of another version")))
+}
+
+/// Reads a typed description into the lent bytes as a table, and answers the number of its entries. The description is the
+/// last of them. 4 bytes are written for each entry, and the bytes behind keep their values; 256 are always enough.
+///
+/// | sign | is |
+/// |---|---|
+/// | `T`, `F` | true; false |
+/// | `n12` | fact 12 |
+/// | `!` | not what follows |
+/// | `>=2 r7`, `<=2 r7` | at least, at most 2 links of relation 7 to worlds where what follows holds |
+/// | `&`, `\|` | and; or |
+/// | `(`, `)` | brackets |
+///
+/// `!` and the counting signs bind closest, then `&`, then `|`; equal signs group leftwards. Around a sign there may be spaces,
+/// or none, and no other bytes; `>=2` and `r7` are two signs, and within one there is no space. Numbers go to 255, and have no
+/// leading zero.
+///
+/// ```
+/// use hurnavis::{read_text, Fault, Writer};
+///
+/// // At least 2 links of relation 7 to worlds with fact 1 and without fact 2.
+/// let mut table = [0; 256];
+/// let count = read_text(">=2 r7 (n1 & !n2)", &mut table)?;
+///
+/// let mut same = Writer::new();
+/// let (p, q) = (same.fact(1), same.fact(2));
+/// let without = same.not(q);
+/// let part = same.and(p, without);
+/// same.at_least(2, 7, part);
+/// assert_eq!(table[..4 * count], same.bytes());
+///
+/// assert_eq!(read_text("n1 &", &mut table), Err(Fault::TextGrammar));
+/// assert_eq!(read_text("n256", &mut table), Err(Fault::TextLimit));
+/// assert_eq!(read_text("!n1", &mut table[..7]), Err(Fault::Space));
+/// # Ok::<(), hurnavis::Fault>(())
+/// ```
+pub fn read_text(text: impl AsRef<[u8]>, table: &mut [u8]) -> Result<usize, Fault> {
+    let mut entries = 0;
+    accepted(raw::read_text(text.as_ref(), table, &mut entries))?;
+    Ok(entries.into())
 }
 
 /// A call's result as Rust has it. Only an archive of another version returns a number that is no fault.

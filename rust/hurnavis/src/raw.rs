@@ -1,5 +1,5 @@
 //! The exported calls as they are, for who wants the numbers: slices in, 0 or the refusal's number out, and the answer in a
-//! place that the caller lends. A refused call leaves that place, and every lent word, as it was.
+//! place that the caller lends. A refused call leaves that place, and all else that was lent, as it was.
 //!
 //! The calls of the crate's root have typed answers; take those where nothing speaks against it.
 
@@ -36,6 +36,13 @@ extern "C" {
         words: *mut u64,
         words_len: usize,
         mark: *mut u8,
+    ) -> u32;
+    fn hurnavis_read_text(
+        text: *const u8,
+        text_len: usize,
+        table: *mut u8,
+        table_len: usize,
+        entries: *mut u8,
     ) -> u32;
 }
 
@@ -96,6 +103,20 @@ pub fn mark(table: &[u8], model: usize, answer: usize, words: &mut [u64], mark: 
             words.as_mut_ptr(),
             words.len(),
             mark,
+        )
+    }
+}
+
+/// 0 with the table of the text at the start of `table` and the number of its entries in `entries`.
+#[must_use]
+pub fn read_text(text: &[u8], table: &mut [u8], entries: &mut u8) -> u32 {
+    unsafe {
+        hurnavis_read_text(
+            text.as_ptr(),
+            text.len(),
+            table.as_mut_ptr(),
+            table.len(),
+            entries,
         )
     }
 }

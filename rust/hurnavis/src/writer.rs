@@ -1,16 +1,10 @@
 //! Writes a table entry by entry.
 
-const TRUE: u32 = 0;
-const FALSE: u32 = 1;
-const FACT: u32 = 2;
-const NOT: u32 = 3;
-const AND: u32 = 4;
-const OR: u32 = 5;
-const AT_LEAST: u32 = 6;
-const AT_MOST: u32 = 7;
+use crate::entry::{self, AND, AT_LEAST, AT_MOST, FACT, FALSE, MOST_ENTRIES, NOT, OR, TRUE};
+use crate::{read_text, Fault};
 
 /// The greatest entry number that fits into a reference.
-const GREATEST_REFERENCE: usize = 63;
+const GREATEST_REFERENCE: usize = MOST_ENTRIES - 1;
 
 /// A table under construction: each method writes one description, an entry, and returns its number, by which later
 /// entries and the calls name it.
@@ -119,6 +113,34 @@ impl Writer {
         }
     }
 
+    /// What somebody typed, in the signs of [`read_text`]: its entries are written behind those that are there, and share
+    /// nothing with them. A refused text writes none.
+    ///
+    /// ```
+    /// use hurnavis::{mark, work_words, Mark, Writer};
+    ///
+    /// let mut table = Writer::new();
+    /// let model = table.text(">=2 r7 n1")?;
+    /// let answer = table.text(">=3 r7 n1")?;
+    /// assert_eq!((model, answer), (1, 3));
+    ///
+    /// let table = table.bytes();
+    /// let mut words = vec![0; work_words(&table, model, answer)?];
+    /// assert_eq!(mark(&table, model, answer, &mut words)?, Mark::Narrower);
+    /// # Ok::<(), hurnavis::Fault>(())
+    /// ```
+    pub fn text(&mut self, text: impl AsRef<[u8]>) -> Result<usize, Fault> {
+        let mut table = [0; 4 * MOST_ENTRIES];
+        let count = read_text(text, &mut table)?;
+        let before = self.count();
+        for entry in entry::entries(&table[..4 * count]) {
+            let mut parts = entry.parts().map(|part| before + part);
+            let (first, second) = (parts.next().unwrap_or(0), parts.next().unwrap_or(0));
+            self.entry(entry.kind, entry.name, first, second, entry.grade);
+        }
+        Ok(before + count - 1)
+    }
+
     /// Kind 4 bits, name 8, first 6, second 6, grade 8, most significant first.
     fn entry(&mut self, kind: u32, name: u8, first: usize, second: usize, grade: u8) -> usize {
         let fields = [
@@ -142,7 +164,7 @@ fn reference(to: usize) -> u32 {
 #[cfg(test)]
 mod tests {
     use super::*;
-    use crate::{check_table, Fault};
+    use crate::check_table;
 
     #[test]
     fn a_reference_that_is_not_earlier_is_refused_at_every_entry() {
@@ -177,6 +199,33 @@ mod tests {
         let mut table = Writer::new();
         assert_eq!((table.all(&[]), table.any(&[])), (0, 1));
         assert_eq!(table.bytes(), [0, 0, 0, 0, 0x10, 0, 0, 0]);
+    }
+
+    #[test]
+    fn a_text_stands_behind_what_is_there() {
+        let mut table = Writer::new();
+        assert_eq!(table.text("n1 | !n2"), Ok(3));
+        assert_eq!(table.text("n1 | !"), Err(Fault::TextGrammar));
+        assert_eq!(table.text("<=255 r254 (F & T)"), Ok(7));
+        let mut same = Writer::new();
+        let parts = [same.fact(1), same.fact(2)];
+        let without = same.not(parts[1]);
+        same.or(parts[0], without);
+        let parts = [same.falsity(), same.truth()];
+        let both = same.and(parts[0], parts[1]);
+        same.at_most(255, 254, both);
+        assert_eq!(table, same);
+    }
+
+    #[test]
+    fn texts_of_too_many_entries_together_are_refused() {
+        let mut table = Writer::new();
+        let text = "!".repeat(31) + "T";
+        assert_eq!(table.text(&text), Ok(31));
+        assert_eq!(table.text(&text), Ok(63));
+        assert_eq!(check_table(&table.bytes()), Ok(()));
+        assert_eq!(table.text(&text), Ok(95));
+        assert_eq!(check_table(&table.bytes()), Err(Fault::TableLength));
     }
 
     #[test]

@@ -1,11 +1,14 @@
-//! The deepest and widest tables that the format allows, on the real stack: run it under `ulimit -s 8192`.
+//! The deepest and widest tables that the format allows, and texts that are far deeper, on the real stack: run it under
+//! `ulimit -s 8192`.
 //!
 //! The answers are known by hand. The main thread's stack is the one that `ulimit` sets, so the calls stay on it.
 
-use hurnavis::Mark;
-use hurnavis::Writer;
+use hurnavis::{Fault, Mark, Writer};
 use std::process::ExitCode;
 use std::time::Instant;
+
+/// More brackets than a stack has room for, if each takes a byte of it.
+const MANY: usize = 1 << 23;
 
 fn main() -> ExitCode {
     let mut good = true;
@@ -26,6 +29,12 @@ fn main() -> ExitCode {
         good &= decided("31 relations at once", grade, true, relations(grade));
         good &= decided("31 needs of one fact", grade, true, needs(grade));
     }
+    good &= bracketed("(", 511, Ok(1));
+    for signs in ["(", "T&(", ">=1r7("] {
+        good &= bracketed(signs, MANY, Err(Fault::TextLimit));
+    }
+    let nots = "!".repeat(MANY) + "T";
+    good &= read("as many nots", Err(Fault::TextLimit), &nots);
     if good {
         ExitCode::SUCCESS
     } else {
@@ -52,6 +61,27 @@ fn decided(name: &str, grade: u8, expected: bool, table: Writer) -> bool {
         "{} {name}, grade {grade}: {} entries, {needed} words, {:.1?}",
         if good { "ok   " } else { "WRONG" },
         table.count(),
+        started.elapsed()
+    );
+    good
+}
+
+/// Reads a fact behind so many of the signs, with all brackets closed, and with one that is not.
+fn bracketed(signs: &str, times: usize, expected: Result<usize, Fault>) -> bool {
+    let text = signs.repeat(times) + "n1" + &")".repeat(times);
+    let closed = read(&format!("{times} times {signs} closed"), expected, &text);
+    let open = &text[..text.len() - 1];
+    closed & read("the same with one left open", Err(Fault::TextGrammar), open)
+}
+
+/// Reads the text, and says whether the number of entries, or the refusal, is the expected one.
+fn read(name: &str, expected: Result<usize, Fault>, text: &str) -> bool {
+    let started = Instant::now();
+    let good = hurnavis::read_text(text, &mut [0; 256]) == expected;
+    println!(
+        "{} text of {name}: {} bytes, {:.1?}",
+        if good { "ok   " } else { "WRONG" },
+        text.len(),
         started.elapsed()
     );
     good

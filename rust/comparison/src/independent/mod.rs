@@ -6,6 +6,7 @@
 //!   formula is taken apart in search of a world. The sets of all possible truth values are computed, the deeper
 //!   entries' first, and a relation's counts are found by adding up successors.
 //! - [`drawn`]: small structures, to look for worlds by trying.
+//! - [`text`]: typed descriptions.
 //!
 //! Where its limits are reached, the independent side says `None` and does not guess.
 
@@ -13,6 +14,7 @@ pub mod counts;
 pub mod drawn;
 pub mod realisable;
 pub mod refusals;
+pub mod text;
 pub mod truth;
 
 use crate::layout::{self, Entry};

@@ -2,10 +2,11 @@
 
 use hurnavis::{work_words, Fault};
 use hurnavis_comparison::independent::realisable::Limits;
-use hurnavis_comparison::independent::{self, refusals};
+use hurnavis_comparison::independent::{self, refusals, text};
+use hurnavis_comparison::layout::MOST_ENTRIES;
 use std::time::{Duration, Instant};
 
-/// A table and what is asked about it.
+/// A table and what is asked about it; a text has no table yet.
 pub struct Case {
     pub table: Vec<u8>,
     pub question: Question,
@@ -18,6 +19,8 @@ pub enum Question {
     Decide(usize),
     /// The mark of the model's entry and the answer's.
     Mark(usize, usize),
+    /// The table of this text.
+    Read(Vec<u8>),
 }
 
 /// An answer in words and the time that one call took.
@@ -54,34 +57,43 @@ impl Case {
                     accepted(hurnavis::mark(table, *model, *answer, &mut words)).to_string()
                 })
             }
+            Question::Read(text) => {
+                let mut lent = [0; 4 * MOST_ENTRIES];
+                repeated(|| read(hurnavis::read_text(text, &mut lent)))
+            }
         }
     }
 
     /// The independent side's answer and time, if it does not give up.
     pub fn independent(&self) -> Option<Measured> {
-        let entries = accepted(refusals::table(&self.table));
+        let entries = || accepted(refusals::table(&self.table));
         let limits = Limits::LARGE;
         match &self.question {
-            Question::Board(structure) => Some(repeated(|| {
-                board(&accepted(independent::board(
-                    &self.table,
-                    structure,
-                    entries.len(),
-                )))
-            })),
+            Question::Board(structure) => {
+                let words = entries().len();
+                Some(repeated(|| {
+                    board(&accepted(independent::board(&self.table, structure, words)))
+                }))
+            }
             Question::Decide(entry) => {
+                let entries = entries();
                 independent::satisfiable(&entries, *entry, limits)?;
                 Some(repeated(|| {
                     decided(independent::satisfiable(&entries, *entry, limits) == Some(true))
                 }))
             }
             Question::Mark(model, answer) => {
+                let entries = entries();
                 independent::compared(&entries, *model, *answer, limits)?;
                 Some(repeated(|| {
                     let mark = independent::compared(&entries, *model, *answer, limits);
                     mark.map_or("unknown".into(), |mark| mark.to_string())
                 }))
             }
+            Question::Read(text) => Some(repeated(|| {
+                let entries = text::read(text, 4 * MOST_ENTRIES);
+                read(entries.map(|entries| entries.len()))
+            })),
         }
     }
 }
@@ -108,6 +120,14 @@ fn decided(satisfiable: bool) -> String {
         "impossible"
     };
     answer.into()
+}
+
+/// The number of entries, or of the refusal.
+pub fn read(result: Result<usize, Fault>) -> String {
+    match result {
+        Ok(entries) => format!("entries {entries}"),
+        Err(fault) => format!("refused {}", fault.number()),
+    }
 }
 
 fn repeated(mut call: impl FnMut() -> String) -> Measured {

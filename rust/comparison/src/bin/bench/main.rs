@@ -1,9 +1,10 @@
 //! Benchmarks: the library beside the independent side, both built for release, in one run.
 //!
 //! `bench` prints a Markdown table with one row a family, the slowest of its sizes, and behind it the open cases: what takes
-//! longer than 10 ms. The rows of all sizes go to `bench.md` in the target directory. `bench --family TEXT` runs only the
-//! families whose name contains the text. Each size runs in a process of its own, because a call cannot be interrupted: the
-//! process ends itself when a call takes over 2 seconds, and a growing family stops there.
+//! longer than 10 ms. A table of texts follows, with a row for each size. The rows of all sizes go to `bench.md` in the target
+//! directory. `bench --family TEXT` runs only the families whose name contains the text. Each size runs in a process of its own,
+//! because a call cannot be interrupted: the process ends itself when a call takes over 2 seconds, and a growing family stops
+//! there.
 
 mod bounded;
 mod case;
@@ -19,6 +20,7 @@ mod planes;
 mod row;
 mod slow_inputs;
 mod tables;
+mod texts;
 mod worlds;
 
 use case::Measured;
@@ -80,6 +82,13 @@ fn measure(part: &str) -> Result<(), String> {
     let limit = show::time(row::OPEN);
     println!("\nOpen cases, over {limit}: {}\n", open.len());
     open.iter().for_each(|line| println!("{line}"));
+    println!("\n{}", row::TEXTS);
+    for family in texts::TEXTS.iter().filter(|f| f.name.contains(part)) {
+        for row in rows(family)? {
+            writeln!(file, "{}", row.raw(family)).map_err(no_file)?;
+            println!("{}", row.text(family));
+        }
+    }
     eprintln!("the rows of all sizes: {}", path.display());
     Ok(())
 }
@@ -138,7 +147,9 @@ fn read(text: &str, side: &str) -> Option<Measured> {
 
 /// Measures one size here: first the independent side, which ends by itself, then the library within the limit.
 fn one(family: &str, size: &str) -> ExitCode {
-    let family = families::all().find(|f| f.name == family);
+    let family = families::all()
+        .chain(texts::TEXTS)
+        .find(|f| f.name == family);
     let (Some(family), Ok(size)) = (family, size.parse::<usize>()) else {
         return ExitCode::FAILURE;
     };

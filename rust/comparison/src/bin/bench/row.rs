@@ -8,13 +8,16 @@ use std::time::Duration;
 /// A decision that takes longer is an open case.
 pub const OPEN: Duration = Duration::from_millis(10);
 
-/// The heads of the two tables.
+/// The heads of the tables.
 pub const RAW: &str = "\
 | family | size | answer | Hurnavis | independent | ratio |
 |---|---|---|---|---|---|";
 pub const SUMMARY: &str = "\
 | family | sizes | slowest | independent side there |
 |---|---|---|---|";
+pub const TEXTS: &str = "\
+| text | bytes | answer | Hurnavis | for a byte | independent | ratio |
+|---|---|---|---|---|---|---|";
 
 /// One size; nothing where a side took too long or gave up.
 pub struct Row {
@@ -49,20 +52,39 @@ impl Row {
         shown(&self.hurnavis, "> 2 s")
     }
 
-    /// The row of the table of all sizes.
-    pub fn raw(&self, family: &Family) -> String {
-        let ratio = match (&self.hurnavis, &self.independent) {
+    fn ratio(&self) -> String {
+        match (&self.hurnavis, &self.independent) {
             (Some(one), Some(other)) => show::ratio(one.time, other.time),
             _ => "".into(),
-        };
+        }
+    }
+
+    /// The row of the table of all sizes.
+    pub fn raw(&self, family: &Family) -> String {
         format!(
-            "| {} | {} {} | {} | {} | {} | {ratio} |",
+            "| {} | {} {} | {} | {} | {} | {} |",
             family.name,
             family.size,
             self.size,
             self.answer(),
             self.shown_time(),
             shown(&self.independent, "gives up"),
+            self.ratio(),
+        )
+    }
+
+    /// The row of the table of texts, of which the size is the length.
+    pub fn text(&self, family: &Family) -> String {
+        let for_a_byte = |m: &Measured| show::nanos(m.time.as_nanos() as f64 / self.size as f64);
+        format!(
+            "| {} | {} | {} | {} | {} | {} | {} |",
+            family.name,
+            self.size,
+            self.answer(),
+            self.shown_time(),
+            self.hurnavis.as_ref().map_or("".into(), for_a_byte),
+            shown(&self.independent, "gives up"),
+            self.ratio(),
         )
     }
 
@@ -140,6 +162,17 @@ mod tests {
         let expected = "| family | n 1 to 4 | > 2 s at 4 | gives up from 1 |";
         assert_eq!(summary(&family, &rows).as_deref(), Some(expected));
         assert_eq!(summary(&family, &[]), None);
+    }
+
+    #[test]
+    fn a_text_has_its_time_for_a_byte() {
+        let family = families::growing("text", "bytes", &[], |_| unreachable!());
+        let text = row(1024, Some(2), Some(4)).text(&family);
+        let expected = "| text | 1024 | possible | 2.0 us | 2.0 ns | 4.0 us | 0.50 |";
+        assert_eq!(text, expected);
+        let text = row(2048, None, Some(4)).text(&family);
+        let expected = "| text | 2048 | possible | > 2 s |  | 4.0 us |  |";
+        assert_eq!(text, expected);
     }
 
     #[test]

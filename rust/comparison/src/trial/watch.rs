@@ -1,7 +1,6 @@
 //! Ends the run, with the input's number, when a call does not come back: a call cannot be interrupted.
 
-use crate::families;
-use hurnavis_comparison::xorshift::Xorshift;
+use super::again;
 use std::sync::atomic::{AtomicU64, Ordering};
 use std::sync::Arc;
 use std::thread;
@@ -15,10 +14,10 @@ pub struct Watch {
 }
 
 impl Watch {
-    pub fn start(seed: u64) -> Watch {
+    pub fn start(seed: u64, show: fn(u64, u64)) -> Watch {
         let current = Arc::new(AtomicU64::new(u64::MAX));
         let watched = current.clone();
-        thread::spawn(move || watch(seed, &watched));
+        thread::spawn(move || watch(seed, show, &watched));
         Watch { current }
     }
 
@@ -28,7 +27,7 @@ impl Watch {
     }
 }
 
-fn watch(seed: u64, current: &AtomicU64) {
+fn watch(seed: u64, show: fn(u64, u64), current: &AtomicU64) {
     let mut last = u64::MAX;
     let mut looks = 0;
     loop {
@@ -37,8 +36,8 @@ fn watch(seed: u64, current: &AtomicU64) {
         looks = if now == last { looks + 1 } else { 0 };
         last = now;
         if looks >= LOOKS {
-            println!("does not come back: --seed {seed} --from {now} --count 1");
-            crate::show(&families::draw(&mut Xorshift::new(seed, now)));
+            println!("does not come back: {}", again(seed, now));
+            show(seed, now);
             std::process::exit(2);
         }
     }
