@@ -1,6 +1,6 @@
 -- The demands of the mission at the calls for C: what the status and the lent place say. Each theorem speaks of any status and place
 -- that keep the promise of their call.
-use mathlib.Core.Path.{_≡_, sym, ap, _∙_}
+use mathlib.Core.Path.{_≡_, sym, _∙_}
 use mathlib.Core.Logic.{_↔_}
 use mathlib.Core.List.{List}
 use Prim.Native.Nat.{ℕ}
@@ -16,7 +16,7 @@ use Rattle.decision.specs.Decide.{numberOf as decided, decideVerdict}
 use Rattle.mark.specs.declared.Mark.{Mark}
 use Rattle.mark.specs.Mark.{MarkIs, numberOf as markNumber, markingNumber}
 use Rattle.faults.specs.Verdict.{numberOf}
-use Rattle.faults.proofs.Numbers.{accepted-refused, no-fault}
+use Rattle.faults.proofs.Numbers.{no-fault}
 use Rattle.grammar.specs.Tree.{Tree}
 use Rattle.grammar.specs.Fits.{Fits}
 use Rattle.typed.specs.declared.Reading.{Reading}

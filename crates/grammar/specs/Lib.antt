@@ -5,7 +5,7 @@ pub mod Text
 pub mod Tree
 -- the grammar: which tree a text is read as
 pub mod Fits
--- numbers over a limit, and how many entries signs make
+-- numbers over 255 in signs, and how many entries they make
 pub mod Measure
 -- what the next sign of a text is; an inner contract
 pub mod Lexed

@@ -1,7 +1,7 @@
--- What is counted in signs: numbers over 255, and entries.
-use mathlib.Core.Bool.{Bool, true, false, _||_}
+-- What is looked for in signs: numbers over 255; and what is counted in them: entries.
+use mathlib.Core.Bool.{Bool, false, _||_}
 use mathlib.Core.List.{List, [], _∷_}
-use Prim.Native.Nat.{ℕ, suc, min, _+_}
+use Prim.Native.Nat.{ℕ, min, _+_}
 use lib.Dec.{ltb}
 use Rattle.grammar.specs.declared.Leaf.{Leaf}
 use Rattle.grammar.specs.declared.Prefix.{Prefix}
@@ -23,6 +23,8 @@ unfoldable pub anyOver : List Sign → Bool
 anyOver [] = false
 anyOver (s ∷ ss) = over s || anyOver ss
 
+-- What follows is an inner contract.
+
 -- "Each `T`, `F`, fact, `!`, `&`, `|` and counting pair makes one entry": brackets make none
 abbrev pub weight : Sign → ℕ
 weight (Sign.Alone l) = 1
@@ -35,7 +37,7 @@ unfoldable pub entries : List Sign → ℕ
 entries [] = 0
 entries (s ∷ ss) = weight s + entries ss
 
--- the sign as a reader holds it: a number over 255 reads as 256. An inner contract
+-- the sign as a reader holds it: a number over 255 reads as 256
 abbrev pub cut : Sign → Sign
 cut (Sign.Alone Leaf.True) = Sign.Alone Leaf.True
 cut (Sign.Alone Leaf.False) = Sign.Alone Leaf.False

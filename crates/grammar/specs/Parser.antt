@@ -1,9 +1,8 @@
 -- The states of a reader that takes one sign after the other. An inner contract.
 use mathlib.Core.Bool.{Bool, true, false}
 use mathlib.Core.List.{List, [], _∷_}
-use Prim.Native.Nat.{ℕ, zero, suc}
+use Prim.Native.Nat.{ℕ, suc}
 use lib.Dec.{leb}
-use Rattle.grammar.specs.declared.Leaf.{Leaf}
 use Rattle.grammar.specs.declared.Prefix.{Prefix}
 use Rattle.grammar.specs.declared.Join.{Join}
 use Rattle.grammar.specs.declared.Sign.{Sign}

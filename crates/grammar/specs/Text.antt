@@ -56,7 +56,8 @@ Spelt text i j (byte b) = (getD text i 0 ≡ b) × (j ≡ i + 1)
 Spelt text i j (numbered b n) = Numbered text i j b n
 Spelt text i j (paired b n r) = Paired text i j b n r
 
--- the text from place i to its end: these signs, with spaces, or none, around them
+-- The text from place i to its end: these signs, with spaces, or none, around them. No sign begins with a digit, so a number goes on as
+-- long as digits follow.
 unfoldable pub Signs : List ℕ → ℕ → List Sign → Type 0
 Signs text i [] = Spaces text i (length text)
 Signs text i (s ∷ ss) = (j : ℕ) × (k : ℕ) × Spaces text i j × Spelt text j k (form s) × Signs text k ss

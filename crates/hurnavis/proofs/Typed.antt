@@ -6,15 +6,14 @@ use mathlib.Core.List.{List}
 use Prim.Native.Nat.{ℕ, _+_, _*_, _<_, _≤_}
 use native.Mathlib.Omega.{arith}
 use lib.Dec.{ltb}
-use lib.ListN.{length, getD, take, drop, length-drop}
+use lib.ListN.{length, take, drop, length-drop}
 use lib.Seq.{length-take-le, getD-take, getD-drop, ext-getD}
-use borrow.Author.Tests.{ltb-true, ltb-false, lt-ltb, le-ltb}
+use borrow.Author.Tests.{ltb-true, ltb-false, lt-ltb}
 use Rattle.faults.specs.declared.Fault.{Fault}
-use Rattle.faults.specs.declared.Fault.the-variants.{Space, TextGrammar, TextLimit}
-use Rattle.faults.specs.declared.Verdict.{Verdict}
+use Rattle.faults.specs.declared.Fault.the-variants.{Space, TextLimit}
 use Rattle.faults.specs.declared.Verdict.the-variants.{Accepted, Refused}
 use Rattle.faults.specs.Verdict.{numberOf, refusal, refuseIf, andThen}
-use Rattle.faults.proofs.Numbers.{accepted-refused, refused-number, accepted-number, no-fault}
+use Rattle.faults.proofs.Numbers.{refused-number, accepted-number, no-fault}
 use Rattle.packed.proofs.Bytes.{same-bytes}
 use Rattle.table.specs.Entry.{entryOf, entryAt, wordAt}
 use Rattle.table.specs.Formulas.{formulaAt}
@@ -25,7 +24,7 @@ use Rattle.grammar.specs.Tree.{Tree, formula}
 use Rattle.grammar.specs.Fits.{Fits}
 use Rattle.grammar.proofs.Unique.{one-tree-fits}
 use Rattle.typed.specs.declared.Reading.{Reading}
-use Rattle.typed.specs.Written.{overLimit, Written}
+use Rattle.typed.specs.Written.{overLimit}
 use Rattle.typed.specs.Reading.{refusal as textRefusal, NoTree, treeVerdict, RefusedFor, ReadingIs}
 use Rattle.typed.proofs.Progress.{within}
 use Rattle.hurnavis.proofs.Demands.{Refuses}

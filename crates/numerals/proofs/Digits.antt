@@ -1,13 +1,12 @@
 -- A loop over digits: what it has read is a decimal number, and where it stops the numeral is whole. A place has one whole numeral.
 use mathlib.Core.Path.{_≡_, refl, sym, ap, _∙_}
 use mathlib.Core.List.{List}
-use Prim.Native.Nat.{ℕ, zero, suc, min, _+_, _*_, _-_, _<_, _≤_}
+use Prim.Native.Nat.{ℕ, suc, min, _+_, _*_, _-_, _<_, _≤_}
 use mathlib.Core.Logic.{by-cases}
 use native.Mathlib.Decide.{decLt}
-use native.Mathlib.Numerals.{add-one}
 use native.Mathlib.Omega.{arith}
 use lib.ListN.{length, getD, List·getD-eq-default}
-use Rattle.numerals.specs.Numeral.{Digit, decimal, Numeral}
+use Rattle.numerals.specs.Numeral.{Digit, decimal}
 use Rattle.numerals.specs.Number.{Whole, DigitIs}
 
 -- a byte that is not 0 stands in the text

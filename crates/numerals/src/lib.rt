@@ -1,7 +1,7 @@
 // Decimal numbers in a text.
 ghost use mathlib.Core.Path.{_≡_};
 ghost use Prim.Native.Nat.{suc, min, _+_, _*_, _≤_, _<_};
-ghost use lib.ListN.{length, getD};
+ghost use lib.ListN.{getD};
 ghost use Rattle.numerals.specs.Number.{NumberIs, DigitIs};
 use packed::byte_at;
 

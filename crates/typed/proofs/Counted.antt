@@ -1,19 +1,18 @@
 -- What is counted in signs: entries, and numbers over 255.
-use mathlib.Core.Path.{_≡_, refl, sym, ap, _∙_}
-use mathlib.Core.Bool.{Bool, true, false, _||_}
+use mathlib.Core.Path.{_≡_, refl}
+use mathlib.Core.Bool.{false}
 use mathlib.Core.List.{List, [], _∷_, _++_}
-use Prim.Native.Nat.{ℕ, min, _+_, _≤_}
+use Prim.Native.Nat.{ℕ, min, _+_}
 use native.Mathlib.Omega.{arith}
 use lib.Dec.{ltb}
 use borrow.Author.Tests.{ltb-false}
 use Rattle.faults.proofs.Each.{neither}
-use Rattle.postorder.specs.Order.{inner, size}
+use Rattle.postorder.specs.Order.{size}
 use Rattle.grammar.specs.declared.Leaf.{Leaf}
 use Rattle.grammar.specs.declared.Prefix.{Prefix}
-use Rattle.grammar.specs.declared.Join.{Join}
 use Rattle.grammar.specs.declared.Sign.{Sign}
 use Rattle.grammar.specs.Tree.{Tree, leaf, bracketed, prefixed, joined, signs, formula}
-use Rattle.grammar.specs.Measure.{over, anyOver, weight, entries, cut}
+use Rattle.grammar.specs.Measure.{over, anyOver, entries, cut}
 use Rattle.typed.proofs.Entries.{leaf-inner, prefix-inner, join-inner}
 
 pub entries-append : (xs ys : List Sign) → entries (xs ++ ys) ≡ entries xs + entries ys

@@ -13,7 +13,7 @@ use Rattle.postorder.specs.Order.{inner, size, Ordered}
 use Rattle.postorder.proofs.Meaning.{ordered-ext}
 use Rattle.grammar.specs.declared.Prefix.{Prefix}
 use Rattle.grammar.specs.declared.Join.{Join}
-use Rattle.grammar.specs.Tree.{Tree, leaf, prefixed, joined, formula, rank}
+use Rattle.grammar.specs.Tree.{Tree, prefixed, joined, formula, rank}
 use Rattle.grammar.specs.Parser.{Frame, bracket, waiting, left, rest, whole}
 use Rattle.typed.specs.Held.{prefixEntry, joinEntry, rankOf, Waits, Holding}
 use Rattle.typed.specs.Steps.{takesNow, closedEntry}

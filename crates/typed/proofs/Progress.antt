@@ -1,28 +1,27 @@
 -- All signs of a text are taken, one after the other: what the loop knows.
 use mathlib.Core.Path.{_≡_, refl, sym, ap, _∙_}
-use mathlib.Core.Bool.{Bool, true, false, _||_}
+use mathlib.Core.Bool.{Bool, false, _||_}
 use mathlib.Core.List.{List, [], _∷_, _++_, append-assoc, append-nil}
-use Prim.Native.Nat.{ℕ, _+_, _*_, _<_, _≤_}
+use Prim.Native.Nat.{ℕ, _+_, _≤_}
 use native.Mathlib.Omega.{arith}
 use lib.Dec.{ltb}
-use lib.ListN.{length, getD}
+use lib.ListN.{length}
 use borrow.Author.Tests.{ltb-false}
 use Rattle.faults.proofs.Each.{neither}
-use Rattle.table.specs.Entry.{entryAt}
-use Rattle.postorder.specs.Order.{size, Ordered}
+use Rattle.postorder.specs.Order.{size}
 use Rattle.grammar.specs.declared.Sign.{Sign}
 use Rattle.grammar.specs.declared.lexer.Lexed.{Lexed}
 use Rattle.grammar.specs.Text.{Signs}
-use Rattle.grammar.specs.Tree.{Tree, signs, formula, Grouped}
-use Rattle.grammar.specs.Fits.{Fits}
-use Rattle.grammar.specs.Lexed.{Next, LexedIs}
-use Rattle.grammar.specs.Measure.{over, anyOver, weight, entries, cut}
-use Rattle.grammar.specs.Parser.{Frame, State, operand, operator, failed, step, run, rest, whole}
+use Rattle.grammar.specs.Tree.{Tree, signs, formula}
+use Rattle.grammar.specs.Lexed.{LexedIs}
+use Rattle.grammar.specs.Measure.{over, anyOver, weight, entries}
+use Rattle.grammar.specs.Parser.{State, operand, operator, failed, step, run, rest, whole}
 use Rattle.grammar.proofs.Reader.{run-append, ends}
 use Rattle.typed.specs.declared.pending.Place.{Place}
 use Rattle.typed.specs.Held.{Waits, Holding, At, Behind}
 use Rattle.typed.specs.Steps.{Ready, Took, Goes, Settled}
-use Rattle.typed.specs.Written.{overLimit, Written, Writable, Wrote}
+use Rattle.typed.specs.Written.{overLimit, Written}
+use Rattle.typed.specs.Writing.{Writable, Wrote}
 use Rattle.typed.proofs.Taking.{behind-more, behind-then}
 use Rattle.typed.proofs.Counted.{entries-append, entries-size, small-here, small-cut}
 

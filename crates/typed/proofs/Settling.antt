@@ -2,15 +2,13 @@
 use mathlib.Core.Path.{_≡_, refl, sym, ap, _∙_}
 use mathlib.Core.Bool.{true, false}
 use mathlib.Core.List.{List}
-use Prim.Native.Nat.{ℕ, _+_, _-_, _*_, _<_, _≤_}
+use Prim.Native.Nat.{ℕ, _+_, _<_, _≤_}
 use native.Mathlib.Omega.{arith}
-use lib.ListN.{length, getD}
-use Rattle.table.specs.Entry.{entryOf, entryAt}
 use Rattle.grammar.specs.Tree.{Tree}
-use Rattle.grammar.specs.Parser.{Frame, rest, whole}
+use Rattle.grammar.specs.Parser.{Frame}
 use Rattle.typed.specs.declared.pending.Place.{Place}
 use Rattle.typed.specs.Held.{Holding, Behind}
-use Rattle.typed.specs.Steps.{takesNow, closedEntry, Room, Closed, Settled}
+use Rattle.typed.specs.Steps.{takesNow, Room, Closed, Settled}
 use Rattle.typed.proofs.Entries.{takes-parts}
 use Rattle.typed.proofs.Held.{Taken, closes, stays}
 

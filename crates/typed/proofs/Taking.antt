@@ -1,30 +1,30 @@
 -- One sign is taken: what the writer holds afterwards is the reader's next state.
 use mathlib.Core.Path.{_≡_, refl, sym, ap, _∙_}
-use mathlib.Core.Bool.{Bool, true, false, _||_}
+use mathlib.Core.Bool.{false, _||_}
 use mathlib.Core.List.{List, [], _∷_}
 use mathlib.Core.Logic.{by-cases}
 use native.Mathlib.Decide.{decLt}
 use native.Mathlib.Numerals.{add-one}
-use Prim.Native.Nat.{ℕ, suc, _+_, _-_, _*_, _<_, _≤_}
+use Prim.Native.Nat.{ℕ, suc, _+_, _-_, _<_, _≤_}
 use native.Mathlib.Omega.{arith}
 use lib.Dec.{ltb}
-use lib.ListN.{length, getD}
+use lib.ListN.{length}
 use borrow.Author.Tests.{ltb-false}
 use Rattle.faults.proofs.Each.{neither}
 use Rattle.table.specs.declared.entry.Entry.{Entry}
-use Rattle.table.specs.Entry.{entryOf, entryAt, Packable, PutEntry}
-use Rattle.postorder.specs.Order.{inner, size, Ordered}
+use Rattle.table.specs.Entry.{entryAt, Packable, PutEntry}
+use Rattle.postorder.specs.Order.{inner}
 use Rattle.grammar.specs.declared.Leaf.{Leaf}
 use Rattle.grammar.specs.declared.Prefix.{Prefix}
 use Rattle.grammar.specs.declared.Join.{Join}
 use Rattle.grammar.specs.declared.Sign.{Sign}
 use Rattle.grammar.specs.Tree.{Tree, leaf, bracketed, formula, rank}
-use Rattle.grammar.specs.Measure.{over, weight}
+use Rattle.grammar.specs.Measure.{over}
 use Rattle.grammar.specs.Parser.{Frame, bracket, waiting, left, State, operand, operator, failed, rest, whole, closed, step, opens}
 use Rattle.grammar.proofs.Reader.{to-end}
 use Rattle.typed.specs.declared.pending.Place.{Place}
 use Rattle.typed.specs.Held.{leafEntry, prefixEntry, joinEntry, Waits, Holding, At, Behind}
-use Rattle.typed.specs.Steps.{Pushed, Settled, Ready, Took, Goes}
+use Rattle.typed.specs.Steps.{Pushed, Settled, Took, Goes}
 use Rattle.typed.proofs.Entries.{leaf-ordered, leaf-inner}
 use Rattle.typed.proofs.Held.{waits-ext}
 

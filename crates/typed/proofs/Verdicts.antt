@@ -1,6 +1,6 @@
 -- What a text with a tree is refused for, from what the survey counts in it.
-use mathlib.Core.Path.{_≡_, refl, sym, ap, ap₂, _∙_}
-use mathlib.Core.Logic.{_⊎_, inl, inr}
+use mathlib.Core.Path.{_≡_, refl, sym, _∙_}
+use mathlib.Core.Logic.{inr}
 use mathlib.Core.Bool.{Bool, true, false, _||_}
 use mathlib.Core.List.{List}
 use Prim.Native.Nat.{ℕ, _*_, _<_, _≤_}
@@ -8,16 +8,15 @@ use native.Mathlib.Omega.{arith}
 use lib.Dec.{ltb}
 use lib.ListN.{length}
 use borrow.Author.Tests.{lt-ltb, le-ltb}
-use Rattle.faults.specs.declared.Fault.the-variants.{Space, TextGrammar, TextLimit}
-use Rattle.faults.specs.declared.Verdict.the-variants.{Accepted}
+use Rattle.faults.specs.declared.Fault.the-variants.{Space, TextLimit}
 use Rattle.postorder.specs.Order.{size}
-use Rattle.grammar.specs.Tree.{Tree, signs, formula}
-use Rattle.grammar.specs.Measure.{anyOver}
+use Rattle.grammar.specs.Tree.{formula}
 use Rattle.survey.specs.declared.Surveyed.{Surveyed}
 use Rattle.survey.specs.Survey.{SurveyIs}
 use Rattle.typed.specs.declared.Reading.{Reading}
-use Rattle.typed.specs.Written.{overLimit, Writable, WrittenFor}
-use Rattle.typed.specs.Reading.{treeVerdict, RefusedFor, ReadingIs}
+use Rattle.typed.specs.Written.{overLimit}
+use Rattle.typed.specs.Writing.{Writable, WrittenFor}
+use Rattle.typed.specs.Reading.{RefusedFor, ReadingIs}
 use Rattle.typed.proofs.Counted.{entries-size}
 use Rattle.typed.proofs.Progress.{within}
 

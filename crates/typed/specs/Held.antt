@@ -1,19 +1,18 @@
 -- What the writer of a table holds while it reads signs: entries that are written, signs that wait for an operand in two lent arrays, each
 -- with the number of brackets open where it stands. An inner contract.
 use mathlib.Core.Path.{_≡_}
-use mathlib.Core.Bool.{Bool, true, false, _&&_, _||_}
+use mathlib.Core.Bool.{Bool, true, false, _&&_}
 use mathlib.Core.List.{List, [], _∷_}
-use Prim.Native.Nat.{ℕ, suc, _+_, _-_, _*_, _<_, _≤_}
+use Prim.Native.Nat.{ℕ, suc, _+_, _*_, _≤_}
 use lib.Dec.{eqb, leb, ltb}
 use lib.ListN.{length, getD}
-use Rattle.semantics.specs.Formula.{Formula}
 use Rattle.table.specs.declared.entry.Entry.{Entry}
 use Rattle.table.specs.Entry.{entryOf, entryAt}
 use Rattle.postorder.specs.Order.{inner, size, plain, named, negated, joining, counting, Ordered}
 use Rattle.grammar.specs.declared.Leaf.{Leaf}
 use Rattle.grammar.specs.declared.Prefix.{Prefix}
 use Rattle.grammar.specs.declared.Join.{Join}
-use Rattle.grammar.specs.Tree.{Tree, formula, rank}
+use Rattle.grammar.specs.Tree.{Tree, formula}
 use Rattle.grammar.specs.Parser.{Frame, bracket, waiting, left, State, operand, operator, failed}
 
 -- the entry of each sign, with the entries that it refers to

@@ -1,7 +1,9 @@
 -- what reading a text answers: 11, 12 and 10
 pub mod Reading
--- the table that a text is written to, and 12, the limits of a text
+-- 12, the limits of a text, and the table that it is written to
 pub mod Written
+-- what writing a text's table takes and leaves; an inner contract
+pub mod Writing
 -- what the writer of a table holds; an inner contract
 pub mod Held
 -- what its functions promise; an inner contract

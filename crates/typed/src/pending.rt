@@ -1,10 +1,10 @@
 // Signs that wait for an operand while the entries of a text are written.
 ghost use mathlib.Core.Path.{_≡_};
-ghost use mathlib.Core.Bool.{true, false};
+ghost use mathlib.Core.Bool.{false};
 ghost use Prim.Native.Nat.{_+_, _<_, _≤_};
 ghost use lib.ListN.{length};
-ghost use Rattle.table.specs.Entry.{entryOf, Packable};
-ghost use Rattle.typed.specs.Held.{leafEntry, prefixEntry, joinEntry, rankOf};
+ghost use Rattle.table.specs.Entry.{Packable};
+ghost use Rattle.typed.specs.Held.{rankOf};
 ghost use Rattle.typed.specs.Steps.{takesNow, closedEntry, Pushed, Room, Closed, Settled};
 use table::entry;
 use table::entry::Entry;

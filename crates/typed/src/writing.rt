@@ -1,11 +1,11 @@
 // The entries of a text that has a tree, written to a table: operands before their sign, left before right.
 ghost use mathlib.Core.Path.{_≡_};
-ghost use Prim.Native.Nat.{_+_, _<_, _≤_};
+ghost use Prim.Native.Nat.{_+_, _≤_};
 ghost use lib.ListN.{length};
 ghost use Rattle.grammar.specs.declared.Sign.{Sign};
 ghost use Rattle.typed.specs.Held.{leafEntry, prefixEntry, joinEntry};
 ghost use Rattle.typed.specs.Steps.{Ready, Took, Goes};
-ghost use Rattle.typed.specs.Written.{Writable, Wrote, WrittenFor};
+ghost use Rattle.typed.specs.Writing.{Writable, Wrote, WrittenFor};
 use crate::pending::Place;
 use crate::pending::push;
 use crate::pending::rank_of;

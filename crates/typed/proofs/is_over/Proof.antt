@@ -1,7 +1,6 @@
 -- `is_over` meets its contract: one test after the other.
 use mathlib.Core.Path.{refl}
 use borrow.Author.Tests.{lt-ltb, le-ltb}
-use borrow.Author.Needs.{needs}
 use Rattle.typed.proofs.is_over.Statement.{statement}
 use Rattle.typed.proofs.is_over.Tie as tie
 

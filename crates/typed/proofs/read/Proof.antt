@@ -1,5 +1,5 @@
 -- `read` meets its contract.
-use mathlib.Core.Path.{refl, sym, _∙_}
+use mathlib.Core.Path.{refl}
 use mathlib.Core.Logic.{inl}
 use native.Mathlib.Omega.{arith}
 use Rattle.typed.proofs.Verdicts.{over-refused, few, space-refused, writable, answered}

@@ -1,9 +1,7 @@
 -- `close` meets its contract: the entry is unpacked, completed and put.
-use mathlib.Core.Path.{_≡_, refl, ap, sym, _∙_}
-use Prim.Native.Nat.{ℕ, _-_, _<_}
+use mathlib.Core.Path.{refl, ap, _∙_}
+use Prim.Native.Nat.{_-_}
 use native.Mathlib.Omega.{arith}
-use lib.ListN.{getD}
-use Rattle.table.specs.Entry.{Packable}
 use Rattle.typed.specs.Steps.{closedEntry}
 use Rattle.typed.proofs.Entries.{repackable}
 use borrow.Author.Needs.{needs}

@@ -1,7 +1,6 @@
 -- `rank_of` meets its contract.
 use mathlib.Core.Path.{refl}
 use borrow.Author.Tests.{ne-eqb}
-use borrow.Author.Needs.{needs}
 use Rattle.typed.proofs.pending.rank_of.Statement.{statement}
 use Rattle.typed.proofs.pending.rank_of.Tie as tie
 

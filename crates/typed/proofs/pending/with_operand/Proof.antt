@@ -1,7 +1,6 @@
 -- `with_operand` meets its contract.
 use mathlib.Core.Path.{refl}
 use borrow.Author.Tests.{le-leb, lt-leb, le-ltb, lt-ltb}
-use borrow.Author.Needs.{needs}
 use Rattle.typed.proofs.pending.with_operand.Statement.{statement}
 use Rattle.typed.proofs.pending.with_operand.Tie as tie
 

@@ -1,6 +1,4 @@
 -- `take` meets its contract: an arm for each sign.
-use mathlib.Core.Path.{_≡_, refl}
-use mathlib.Core.Bool.{false}
 use native.Mathlib.Omega.{arith}
 use Rattle.typed.proofs.Taking.{prefix-packable, prefix-took, open-took, operand-there, bracket-there}
 use borrow.Author.Needs.{needs}

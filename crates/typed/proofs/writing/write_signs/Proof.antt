@@ -4,7 +4,7 @@ use mathlib.Core.Logic.{⊎-elim}
 use Prim.Native.Nat.{_-_}
 use native.Mathlib.Omega.{arith}
 use lib.ListN.{length}
-use Rattle.typed.specs.Written.{Writable}
+use Rattle.typed.specs.Writing.{Writable}
 use Rattle.typed.proofs.Progress.{Writing, none-taken, ready, goes, one-more, ended}
 use borrow.Author.Needs.{needs}
 use Rattle.typed.proofs.writing.write_signs.Statement.{statement}
