@@ -1,6 +1,6 @@
 -- The signs of a text, one after the other: at most one sign stands at a place, and the text's signs begin with it.
 use mathlib.Core.Path.{_≡_, refl, sym, ap, ap₂, _∙_}
-use mathlib.Core.Logic.{by-cases, _↔_}
+use mathlib.Core.Logic.{by-cases, _↔_, _⊎_, inl, inr}
 use mathlib.Core.Bool.{Bool, true, false, cond, _||_}
 use mathlib.Core.List.{List, [], _∷_}
 use Prim.Native.Nat.{ℕ, min, _+_, _<_, _≤_}
@@ -120,16 +120,16 @@ known Sign.Close = search needs
 -- a byte that is the first of no sign
 abbrev Unknown : ℕ → Type 0
 Unknown b =
-    ((((((((((Unit {0} × (b ≡ 84 → ⊥)) × (b ≡ 70 → ⊥)) × (b ≡ 110 → ⊥)) × (b ≡ 33 → ⊥)) × (b ≡ 62 → ⊥)) × (b ≡ 60 → ⊥)) × (b ≡ 38 → ⊥))
+    (((((((((Unit {0} × (b ≡ 84 → ⊥)) × (b ≡ 70 → ⊥)) × (b ≡ 110 → ⊥)) × (b ≡ 33 → ⊥)) × ((b ≡ 60) ⊎ (b ≡ 62) → ⊥)) × (b ≡ 38 → ⊥))
     × (b ≡ 124 → ⊥)) × (b ≡ 40 → ⊥)) × (b ≡ 41 → ⊥))
 
 no-lead : (s : Sign) → Unknown (lead (form s)) → ⊥
-no-lead (Sign.Alone Leaf.True) none = none .0 .0 .0 .0 .0 .0 .0 .0 .0 .1 refl
-no-lead (Sign.Alone Leaf.False) none = none .0 .0 .0 .0 .0 .0 .0 .0 .1 refl
-no-lead (Sign.Alone (Leaf.Fact n)) none = none .0 .0 .0 .0 .0 .0 .0 .1 refl
-no-lead (Sign.Before Prefix.Not) none = none .0 .0 .0 .0 .0 .0 .1 refl
-no-lead (Sign.Before (Prefix.AtLeast n r)) none = none .0 .0 .0 .0 .0 .1 refl
-no-lead (Sign.Before (Prefix.AtMost n r)) none = none .0 .0 .0 .0 .1 refl
+no-lead (Sign.Alone Leaf.True) none = none .0 .0 .0 .0 .0 .0 .0 .0 .1 refl
+no-lead (Sign.Alone Leaf.False) none = none .0 .0 .0 .0 .0 .0 .0 .1 refl
+no-lead (Sign.Alone (Leaf.Fact n)) none = none .0 .0 .0 .0 .0 .0 .1 refl
+no-lead (Sign.Before Prefix.Not) none = none .0 .0 .0 .0 .0 .1 refl
+no-lead (Sign.Before (Prefix.AtLeast n r)) none = none .0 .0 .0 .0 .1 (inr refl)
+no-lead (Sign.Before (Prefix.AtMost n r)) none = none .0 .0 .0 .0 .1 (inl refl)
 no-lead (Sign.Between Join.And) none = none .0 .0 .0 .1 refl
 no-lead (Sign.Between Join.Or) none = none .0 .0 .1 refl
 no-lead Sign.Open none = none .0 .1 refl

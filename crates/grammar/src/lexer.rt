@@ -121,13 +121,14 @@ fn stands_at(text: &[u8], at: usize) -> Lexed
     ensures { λ r. ⌜ StandsIs (now (text .entry)) at r ⌝ }
 {
     let next = at + 1;
-    match byte_at(text, at) {
+    let b = byte_at(text, at);
+    match b {
         84 => Lexed::Found(Sign::Alone(Leaf::True), next, false),
         70 => Lexed::Found(Sign::Alone(Leaf::False), next, false),
         110 => fact_at(text, at),
         33 => Lexed::Found(Sign::Before(Prefix::Not), next, false),
-        62 => counted_at(text, at, true),
-        60 => counted_at(text, at, false),
+        // One call for both: then it is compiled into this function, and no sign is handed on in memory.
+        60 | 62 => counted_at(text, at, b == 62),
         38 => Lexed::Found(Sign::Between(Join::And), next, false),
         124 => Lexed::Found(Sign::Between(Join::Or), next, false),
         40 => Lexed::Found(Sign::Open, next, false),
