@@ -1,5 +1,5 @@
 /* Tests of the header: what the entry macros write, the constant of each refusal beside a call that gives it, and that a
- * refused call leaves the place of its answer as it was. It prints nothing; its status is 1 after a fault. */
+ * refused call leaves the place of its answer, and a draft, as it was. It prints nothing; its status is 1 after a fault. */
 
 #include "hurnavis.h"
 
@@ -142,6 +142,79 @@ static void texts(void)
     EXPECT(place[0] == 9 && place[2] == 9);
 }
 
+/* An entry as one number is its bytes, most significant first. */
+static void words_of_entries(void)
+{
+    EXPECT(HURNAVIS_WORD(HURNAVIS_TRUTH) == 0 && HURNAVIS_WORD(HURNAVIS_FACT(0xab)) == 0x2ab00000u);
+    EXPECT(HURNAVIS_WORD(HURNAVIS_OR(62, 63)) == 0x500fbf00u && HURNAVIS_WORD(HURNAVIS_FACT(256)) >> 28 == 15);
+    EXPECT(HURNAVIS_WORD(HURNAVIS_AT_LEAST(255, 0xcd, 5)) == 0x6cd140ffu);
+}
+
+/* A fact and its negation; the fact alone is saved under name 15, both under name 0. */
+static void drafts(void)
+{
+    static const uint8_t both[] = {HURNAVIS_FACT(1), HURNAVIS_NOT(0)}, zeros[252] = {0};
+    uint8_t lent[HURNAVIS_DRAFT_BYTES + 2];
+    uint8_t *const draft = lent + 1;
+    const size_t length = HURNAVIS_DRAFT_BYTES;
+    size_t i;
+
+    memset(lent, 0xa5, sizeof lent);
+    EXPECT(hurnavis_draft_new(draft, length) == 0 && draft[HURNAVIS_DRAFT_ENTRIES] == 0);
+    for (i = HURNAVIS_DRAFT_SAVED; i < length; i++) {
+        EXPECT(draft[i] == HURNAVIS_DRAFT_UNSAVED);
+    }
+    EXPECT(hurnavis_draft_add(draft, length, HURNAVIS_WORD(HURNAVIS_FACT(1))) == 0);
+    EXPECT(hurnavis_draft_save(draft, length, 15) == 0 && draft[HURNAVIS_DRAFT_SAVED + 15] == 1);
+    EXPECT(hurnavis_draft_add(draft, length, HURNAVIS_WORD(HURNAVIS_NOT(0))) == 0);
+    EXPECT(hurnavis_draft_save(draft, length, 0) == 0 && draft[HURNAVIS_DRAFT_SAVED] == 2);
+    EXPECT(draft[HURNAVIS_DRAFT_ENTRIES] == 2 && memcmp(draft, both, sizeof both) == 0);
+    EXPECT(hurnavis_check_table(draft, 4u * draft[HURNAVIS_DRAFT_ENTRIES]) == 0);
+    EXPECT(hurnavis_draft_back(draft, length, 15) == 0 && draft[HURNAVIS_DRAFT_ENTRIES] == 1);
+    EXPECT(memcmp(draft, both, 4) == 0 && memcmp(draft + 4, zeros, sizeof zeros) == 0);
+    EXPECT(draft[HURNAVIS_DRAFT_SAVED] == HURNAVIS_DRAFT_UNSAVED && draft[HURNAVIS_DRAFT_SAVED + 15] == 1);
+    EXPECT(lent[0] == 0xa5 && lent[sizeof lent - 1] == 0xa5);
+}
+
+static void refusals_of_drafts(void)
+{
+    uint8_t draft[HURNAVIS_DRAFT_BYTES + 1], before[sizeof draft];
+    const size_t length = HURNAVIS_DRAFT_BYTES;
+
+    EXPECT(hurnavis_draft_new(draft, length) == 0 && hurnavis_draft_add(draft, length, 0) == 0);
+    draft[length] = HURNAVIS_DRAFT_UNSAVED;
+    memcpy(before, draft, sizeof draft);
+    EXPECT(hurnavis_draft_new(draft, length - 1) == HURNAVIS_DRAFT);
+    EXPECT(hurnavis_draft_add(draft, length + 1, 0) == HURNAVIS_DRAFT);
+    EXPECT(hurnavis_draft_save(draft, length, 16) == HURNAVIS_DRAFT);
+    EXPECT(hurnavis_draft_back(draft, length, 0) == HURNAVIS_DRAFT);
+    EXPECT(hurnavis_draft_add(draft, length, HURNAVIS_WORD(HURNAVIS_NOT(64))) == HURNAVIS_KIND);
+    EXPECT(hurnavis_draft_add(draft, length, 1) == HURNAVIS_UNUSED_FIELD);
+    EXPECT(hurnavis_draft_add(draft, length, HURNAVIS_WORD(HURNAVIS_NOT(1))) == HURNAVIS_REFERENCE);
+    SAME(draft, before);
+}
+
+/* As many entries as there can be; 16 comes before 1, and 1 before 2. */
+static void full_draft(void)
+{
+    uint8_t draft[HURNAVIS_DRAFT_BYTES], before[sizeof draft];
+    uint32_t i;
+
+    EXPECT(hurnavis_draft_new(draft, sizeof draft) == 0);
+    for (i = 0; i < 64; i++) {
+        EXPECT(hurnavis_draft_add(draft, sizeof draft, HURNAVIS_WORD(HURNAVIS_FACT(i))) == 0);
+    }
+    EXPECT(hurnavis_check_table(draft, 4u * draft[HURNAVIS_DRAFT_ENTRIES]) == 0);
+    memcpy(before, draft, sizeof draft);
+    EXPECT(hurnavis_draft_add(draft, sizeof draft, 0xffffffffu) == HURNAVIS_TABLE_LENGTH);
+    SAME(draft, before);
+    draft[HURNAVIS_DRAFT_SAVED] = 65;
+    before[HURNAVIS_DRAFT_SAVED] = 65;
+    EXPECT(hurnavis_draft_add(draft, sizeof draft, 0xffffffffu) == HURNAVIS_DRAFT);
+    EXPECT(hurnavis_draft_back(draft, sizeof draft, 0) == HURNAVIS_DRAFT);
+    SAME(draft, before);
+}
+
 int main(void)
 {
     SAME(every_kind, every_kind_packed);
@@ -152,5 +225,9 @@ int main(void)
     refusals_of_structures();
     places_of_answers();
     texts();
+    words_of_entries();
+    drafts();
+    refusals_of_drafts();
+    full_draft();
     return faults;
 }

@@ -8,8 +8,8 @@
  *
  * - A slice is a pointer and a length, counted in elements. No pointer is null, also where the length is 0.
  * - A pointer to uint64_t is aligned as that type is.
- * - What is lent for writing (words, bytes for a table, and the place of the answer) overlaps nothing else that the same call
- *   takes.
+ * - What is lent for writing (words, bytes for a table, a draft, and the place of the answer) overlaps nothing else that the
+ *   same call takes.
  * - No call allocates, keeps a pointer or keeps any state: threads may call at the same time, each with words of its own.
  *   Of the stack, no call that was tried took 512 KiB.
  */
@@ -25,7 +25,8 @@ extern "C" {
 #endif
 
 /* The refusals. The first fault in order counts: 1; then entry by entry 2, 3, 4; then 6; then record by record 7, 8; then 9;
- * then 10. A call skips what it does not take. Of a text: 11; then 12; then 10. Later calls add refusals. 5 is unused. */
+ * then 10. A call skips what it does not take. Of a text: 11; then 12; then 10. Of a draft: 16; then 1 for a 65th entry; then 2,
+ * 3, 4. Later calls add refusals. 5 is unused. */
 #define HURNAVIS_TABLE_LENGTH 1u     /* the table's length is 0, over 256 bytes, or not a multiple of 4 */
 #define HURNAVIS_KIND 2u             /* an entry's kind is over 7 */
 #define HURNAVIS_UNUSED_FIELD 3u     /* a field that the entry's kind does not use is not 0 */
@@ -37,6 +38,7 @@ extern "C" {
 #define HURNAVIS_SPACE 10u           /* the lent words, or bytes for a table, are fewer than the call needs */
 #define HURNAVIS_TEXT_GRAMMAR 11u    /* the text is outside the grammar; the empty text is */
 #define HURNAVIS_TEXT_LIMIT 12u      /* the text is over 1,024 bytes, has a number over 255, or makes over 64 entries */
+#define HURNAVIS_DRAFT 16u           /* no steps from a fresh draft give this one, or the name is over 15 or not saved */
 
 /* The marks: how an answer that holds somewhere stands to the model; 4 is that of an answer that holds nowhere. */
 #define HURNAVIS_EQUAL 0u      /* they hold at the same worlds of every finite structure */
@@ -62,7 +64,10 @@ extern "C" {
 #define HURNAVIS_AT_LEAST(grade, relation, part) HURNAVIS_ENTRY_(6, relation, part, 0, grade)
 #define HURNAVIS_AT_MOST(grade, relation, part) HURNAVIS_ENTRY_(7, relation, part, 0, grade)
 
-/* Not for callers: the four bytes of an entry, and whether its fields fit. */
+/* An entry as one number, for hurnavis_draft_add: HURNAVIS_WORD(HURNAVIS_FACT(1)) is 0x20100000. */
+#define HURNAVIS_WORD(entry) HURNAVIS_WORD_(entry)
+
+/* Not for callers: the four bytes of an entry, whether its fields fit, and the number of its bytes. */
 #define HURNAVIS_ENTRY_(kind, name, first, second, grade) \
     (uint8_t)(HURNAVIS_FITS_(name, first, second, grade) ? (kind) * 16u + ((name) / 16u) % 16u : 240u), \
     (uint8_t)(((name) % 16u) * 16u + ((first) / 4u) % 16u), \
@@ -70,6 +75,8 @@ extern "C" {
     (uint8_t)((grade) % 256u)
 #define HURNAVIS_FITS_(name, first, second, grade) \
     ((name) / 256u == 0u && (first) / 64u == 0u && (second) / 64u == 0u && (grade) / 256u == 0u)
+#define HURNAVIS_WORD_(first, second, third, fourth) \
+    ((uint32_t)(first) << 24 | (uint32_t)(second) << 16 | (uint32_t)(third) << 8 | (uint32_t)(fourth))
 
 /* Checks a table. The other calls check it too. */
 uint32_t hurnavis_check_table(const uint8_t *table, size_t table_len);
@@ -108,6 +115,32 @@ uint32_t hurnavis_mark(const uint8_t *table, size_t table_len, size_t model, siz
  * To have two texts in one table, read them as one, (model)&(answer): the answer is then the last entry but one, and the model
  * has the number that it has when it is read alone. */
 uint32_t hurnavis_read_text(const uint8_t *text, size_t text_len, uint8_t *table, size_t table_len, uint8_t *entries);
+
+/* A draft is a table under composition, to which an entry is added at a time. It is saved under a name, 0 to 15, and one can come
+ * back to what was saved. It is 273 bytes that the caller keeps: 64 entries of 4 bytes, of which those behind the last are 0; the
+ * number of entries; and for each name the number of entries that it was saved with, or 255 if it is not saved. The other calls
+ * take the table of its entries:
+ *
+ *     hurnavis_check_table(draft, 4u * draft[HURNAVIS_DRAFT_ENTRIES])
+ *
+ * Bytes that no steps from a fresh draft give are refused with 16 before anything else, and so is every length but 273. */
+#define HURNAVIS_DRAFT_BYTES 273u
+#define HURNAVIS_DRAFT_ENTRIES 256u /* where the number of entries stands */
+#define HURNAVIS_DRAFT_SAVED 257u   /* where the number of entries of name 0 stands; the other names' follow */
+#define HURNAVIS_DRAFT_UNSAVED 255u /* what stands there if the name is not saved */
+
+/* Makes the bytes a fresh draft, whatever they were: no entries, and no name saved. Refuses 16 for a length other than 273. */
+uint32_t hurnavis_draft_new(uint8_t *draft, size_t draft_len);
+
+/* Adds the entry behind the others. Refuses 16, then 1 for a 65th entry whatever it is, then 2, 3, 4 for the entry. */
+uint32_t hurnavis_draft_add(uint8_t *draft, size_t draft_len, uint32_t entry);
+
+/* Saves the draft under the name. What was saved under it before is replaced. Refuses 16, also for a name over 15. */
+uint32_t hurnavis_draft_save(uint8_t *draft, size_t draft_len, uint8_t name);
+
+/* Comes back to what was saved under the name: its entries stay, the bytes behind them become 0, and names that were saved with
+ * more entries are forgotten. Refuses 16, also for a name over 15 or not saved. */
+uint32_t hurnavis_draft_back(uint8_t *draft, size_t draft_len, uint8_t name);
 
 #ifdef __cplusplus
 }

@@ -6,9 +6,13 @@ ghost use Rattle.faults.specs.Verdict.{refusal};
 ghost use Rattle.table.specs.Check.{tableVerdict};
 ghost use Rattle.truth_table.specs.Board.{boardVerdict, BoardAfter};
 ghost use Rattle.decision.specs.Call.{pairThere, pairWork};
+ghost use Rattle.history.specs.declared.Step.the-variants.{Add, Save, Back};
+ghost use Rattle.history.specs.Shown.{BytesShow};
+ghost use Rattle.history.specs.Answered.{Begins, Answers};
 ghost use Rattle.exports.specs.Status.{placed, DecisionTold, MarkTold, ReadingTold};
 use decision::Decision;
 use decision::call::Needed;
+use history::Step;
 use mark::Marking;
 use typed::Reading;
 
@@ -108,4 +112,36 @@ pub extern "C" fn hurnavis_read_text(text: &[u8], table: &mut [u8], entries: &mu
         }
         Reading::Refused(fault) => fault.number() as u32,
     }
+}
+
+// Makes the 273 bytes a fresh draft.
+#[no_mangle]
+pub extern "C" fn hurnavis_draft_new(draft: &mut [u8]) -> u32
+    ensures { λ r. ⌜ Begins (now (draft .entry)) (now (draft .exit)) r ⌝ }
+{
+    draft_bytes::begin(draft) as u32
+}
+
+// Adds an entry to the draft.
+#[no_mangle]
+pub extern "C" fn hurnavis_draft_add(draft: &mut [u8], entry: u32) -> u32
+    ensures { λ r. ⌜ Answers BytesShow (Add entry) (now (draft .entry)) (now (draft .exit)) r ⌝ }
+{
+    draft_bytes::step(draft, Step::Add(entry)) as u32
+}
+
+// Saves the draft under a name.
+#[no_mangle]
+pub extern "C" fn hurnavis_draft_save(draft: &mut [u8], name: u8) -> u32
+    ensures { λ r. ⌜ Answers BytesShow (Save name) (now (draft .entry)) (now (draft .exit)) r ⌝ }
+{
+    draft_bytes::step(draft, Step::Save(name)) as u32
+}
+
+// Comes back to what was saved under a name.
+#[no_mangle]
+pub extern "C" fn hurnavis_draft_back(draft: &mut [u8], name: u8) -> u32
+    ensures { λ r. ⌜ Answers BytesShow (Back name) (now (draft .entry)) (now (draft .exit)) r ⌝ }
+{
+    draft_bytes::step(draft, Step::Back(name)) as u32
 }

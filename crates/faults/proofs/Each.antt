@@ -70,3 +70,9 @@ each-accepted v (suc n) e i h =
     let both : (each v n ≡ Accepted) × (v n ≡ Accepted) = both-accepted (each v n) (v n) e in
     ⊎-elim (λ (at : i ≡ n). rw at (both .1)) (λ (l : i < n). each-accepted v n (both .0) i l)
     (eq-or-lt-of-le (le-of-suc-le-suc h))
+
+-- and where each of them accepts, the row does
+pub all-accepted : (v : ℕ → Verdict) (n : ℕ) → ((i : ℕ) → i < n → v i ≡ Accepted) → each v n ≡ Accepted
+unfolding each
+all-accepted v zero ok = refl
+all-accepted v (suc n) ok = rw (all-accepted v n (λ i h. ok i (omega arith))) (ok n (omega arith))

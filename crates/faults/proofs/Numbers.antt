@@ -6,7 +6,7 @@ use Prim.Native.Nat.{ℕ}
 use native.Mathlib.Omega.{arith}
 use lib.ListN.{getD}
 use Rattle.faults.specs.declared.Fault.{Fault}
-use Rattle.faults.specs.declared.Fault.the-variants.{TableLength, Kind, UnusedField, Reference, StructureLength, Record, World, EntryNumber, Space, TextGrammar, TextLimit}
+use Rattle.faults.specs.declared.Fault.the-variants.{TableLength, Kind, UnusedField, Reference, StructureLength, Record, World, EntryNumber, Space, TextGrammar, TextLimit, Draft}
 use Rattle.faults.specs.declared.Verdict.{Verdict}
 use Rattle.faults.specs.declared.Verdict.the-variants.{Accepted, Refused}
 use Rattle.faults.specs.Verdict.{numberOf, refusal}
@@ -14,7 +14,7 @@ use Rattle.faults.specs.Verdict.{numberOf, refusal}
 -- the fault with a number; Space for a number that no fault has
 faultOf : ℕ → Fault
 faultOf n =
-    getD (Space ∷ TableLength ∷ Kind ∷ UnusedField ∷ Reference ∷ Space ∷ StructureLength ∷ Record ∷ World ∷ EntryNumber ∷ Space ∷ TextGrammar ∷ TextLimit ∷ []) n Space
+    getD (Space ∷ TableLength ∷ Kind ∷ UnusedField ∷ Reference ∷ Space ∷ StructureLength ∷ Record ∷ World ∷ EntryNumber ∷ Space ∷ TextGrammar ∷ TextLimit ∷ Space ∷ Space ∷ Space ∷ Draft ∷ []) n Space
 
 fault-of : (f : Fault) → faultOf (numberOf f) ≡ f
 unfolding faultOf
@@ -29,6 +29,7 @@ fault-of EntryNumber = refl
 fault-of Space = refl
 fault-of TextGrammar = refl
 fault-of TextLimit = refl
+fault-of Draft = refl
 
 same-fault : (f g : Fault) → numberOf f ≡ numberOf g → f ≡ g
 same-fault f g e = sym (fault-of f) ∙ ap faultOf e ∙ fault-of g

@@ -2,11 +2,11 @@
 use mathlib.Core.Bool.{Bool, true, false}
 use Prim.Native.Nat.{ℕ, zero, suc}
 use Rattle.faults.specs.declared.Fault.{Fault}
-use Rattle.faults.specs.declared.Fault.the-variants.{TableLength, Kind, UnusedField, Reference, StructureLength, Record, World, EntryNumber, Space, TextGrammar, TextLimit}
+use Rattle.faults.specs.declared.Fault.the-variants.{TableLength, Kind, UnusedField, Reference, StructureLength, Record, World, EntryNumber, Space, TextGrammar, TextLimit, Draft}
 use Rattle.faults.specs.declared.Verdict.{Verdict}
 use Rattle.faults.specs.declared.Verdict.the-variants.{Accepted, Refused}
 
--- document 01's number of each fault, and document 02's from 11 on (P1); 5 stays unused (P4)
+-- document 01's number of each fault, and document 02's from 11 on (P1, P9); 5 stays unused (P4)
 abbrev pub numberOf : Fault → ℕ
 numberOf TableLength = 1
 numberOf Kind = 2
@@ -19,6 +19,7 @@ numberOf EntryNumber = 9
 numberOf Space = 10
 numberOf TextGrammar = 11
 numberOf TextLimit = 12
+numberOf Draft = 16
 
 -- the number of a verdict: that of its fault, and 0, which is no fault's, where there is none
 abbrev pub refusal : Verdict → ℕ

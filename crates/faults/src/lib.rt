@@ -4,7 +4,7 @@ ghost use mathlib.Core.Path.{_≡_};
 ghost use Rattle.faults.specs.Verdict.{numberOf, refusal};
 
 // One case for each number of document 01, in its order, and of document 02 from 11 on. 5 is no fault's number: document 02, P4,
-// took it out.
+// took it out. 13 to 15 wait for their requests.
 pub enum Fault {
     TableLength,
     Kind,
@@ -17,6 +17,7 @@ pub enum Fault {
     Space,
     TextGrammar,
     TextLimit,
+    Draft,
 }
 
 // What a check answers: the input is within the limits, or the first fault in document 01's order.
@@ -42,6 +43,7 @@ impl Fault {
             Fault::Space => 10,
             Fault::TextGrammar => 11,
             Fault::TextLimit => 12,
+            Fault::Draft => 16,
         }
     }
 }

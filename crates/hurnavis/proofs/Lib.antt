@@ -2,3 +2,5 @@
 pub mod Demands
 -- typed answers: each refusal exactly when, and what the table means
 pub mod Typed
+-- drafts: each refusal exactly when, and what the table of a draft is
+pub mod Drafts

@@ -8,9 +8,19 @@ ghost use Rattle.decision.specs.Decide.{DecisionIs};
 ghost use Rattle.mark.specs.Mark.{MarkingIs};
 ghost use Rattle.truth_table.specs.Board.{boardVerdict, BoardAfter};
 ghost use Rattle.typed.specs.Reading.{ReadingIs};
+ghost use Rattle.faults.specs.Verdict.{refusal};
+ghost use Rattle.history.specs.declared.Step.the-variants.{Add, Save, Back};
+ghost use Rattle.history.specs.History.{fresh};
+ghost use Rattle.history.specs.Shown.{Shows};
+ghost use Rattle.history.specs.Answered.{Answers};
+ghost use Rattle.draft_bytes.specs.Table.{TableIs};
 use decision::Decision;
 use decision::call::Needed;
+use draft::Stepped;
+use draft_bytes::Tabled;
 use faults::Verdict;
+use history::Draft;
+use history::Step;
 use mark::Marking;
 use typed::Reading;
 
@@ -64,4 +74,43 @@ pub fn mark(table: &[u8], model: usize, answer: usize, words: &mut [u64]) -> Mar
     ensures { λ r. ⌜ MarkingIs (now (table .entry)) model answer (now (words .entry)) (now (words .exit)) r ⌝ }
 {
     mark::mark_pair(table, model, answer, words)
+}
+
+// An empty draft with no name saved (document 02, P9). The steps below take a draft and give the next one.
+pub fn draft_new() -> Draft
+    ensures { λ r. ⌜ Shows r fresh ⌝ }
+{
+    draft::new()
+}
+
+// Adds an entry, packed as in a table. Refuses with 16 for a draft that no sequence of steps gives, 1 for a 65th entry, or 2, 3 or 4
+// for a bad one; a refused step gives back the draft as it was.
+pub fn draft_add(draft: Draft, entry: u32) -> Stepped
+    ensures { λ r. ⌜ Answers Shows (Add entry) draft (r .draft) (refusal (r .verdict)) ⌝ }
+{
+    draft::step(draft, Step::Add(entry))
+}
+
+// Saves the draft under a name from 0 to 15; a used name is replaced. Refuses with 16 for a draft that no sequence gives or a name
+// over 15.
+pub fn draft_save(draft: Draft, name: u8) -> Stepped
+    ensures { λ r. ⌜ Answers Shows (Save name) draft (r .draft) (refusal (r .verdict)) ⌝ }
+{
+    draft::step(draft, Step::Save(name))
+}
+
+// Comes back to what was saved under a name, and forgets names saved with more entries. Refuses as `draft_save` does, and for a name
+// that is not saved.
+pub fn draft_back(draft: Draft, name: u8) -> Stepped
+    ensures { λ r. ⌜ Answers Shows (Back name) draft (r .draft) (refusal (r .verdict)) ⌝ }
+{
+    draft::step(draft, Step::Back(name))
+}
+
+// Writes the entries of a draft as the bytes of a table for the other calls, and answers how many there are; the bytes behind stay as
+// they were. Refuses with 16 for a draft that no sequence gives, or 10 for too few bytes, and then leaves all bytes as they were.
+pub fn draft_table(draft: Draft, table: &mut [u8]) -> Tabled
+    ensures { λ r. ⌜ TableIs draft (now (table .entry)) (now (table .exit)) r ⌝ }
+{
+    draft_bytes::table_of(draft, table)
 }

@@ -1,12 +1,10 @@
 -- What the order gives: entries elsewhere have no influence on it, the last entry means the formula, and such a table is accepted.
 use mathlib.Core.Path.{_≡_, refl, sym, ap, ap₂, _∙_}
-use mathlib.Core.Bool.{true, false}
 use mathlib.Core.List.{List}
-use Prim.Native.Nat.{ℕ, suc, _+_, _*_, _/_, _%_, _<_, _≤_}
+use Prim.Native.Nat.{ℕ, suc, _+_, _*_, _<_, _≤_}
 use native.Mathlib.Omega.{arith}
-use lib.Dec.{eqb, ltb}
 use lib.ListN.{length}
-use borrow.Author.Tests.{lt-leb, le-ltb, eq-eqb, ne-eqb}
+use borrow.Author.Tests.{lt-leb}
 use Rattle.faults.specs.declared.Verdict.{Verdict}
 use Rattle.faults.specs.declared.Verdict.the-variants.{Accepted}
 use Rattle.faults.specs.Verdict.{each}
@@ -15,6 +13,7 @@ use Rattle.table.specs.declared.entry.Entry.{Entry}
 use Rattle.table.specs.Entry.{entryAt}
 use Rattle.table.specs.Check.{usesOf, entryVerdict, entriesVerdict, tableVerdict}
 use Rattle.table.specs.Formulas.{kinds, formulaOf, formulaAt}
+use Rattle.table.proofs.Accepted.{entries-accepted}
 use Rattle.table.proofs.Formulas.{earlier, formulaAt-earlier, earlier-below}
 use Rattle.postorder.specs.Order.{inner, size, plain, named, negated, joining, counting, Ordered}
 
@@ -135,10 +134,6 @@ module _ (entry : ℕ → Entry) where
 -- a table with just the entries of a formula is accepted, if they are not too many
 pub ordered-accepted : (bytes : List ℕ) (φ : Formula) → length bytes ≡ 4 * size φ → size φ ≤ 64 → Ordered (entryAt bytes) 0 φ
     → tableVerdict bytes ≡ Accepted
-unfolding tableVerdict each
+unfolding each
 ordered-accepted bytes φ long few o =
-    let some : eqb (length bytes) 0 ≡ false = ne-eqb (length bytes) 0 (λ e. omega arith) in
-    let not-many : ltb 256 (length bytes) ≡ false = le-ltb 256 (length bytes) (omega arith) in
-    let whole : eqb (length bytes % 4) 0 ≡ true = eq-eqb (length bytes % 4) 0 (omega arith) in
-    let all : length bytes / 4 ≡ 0 + size φ = omega arith in
-    rw (some, not-many, whole, all) (ordered-entries (entryAt bytes) 0 φ o refl)
+    entries-accepted bytes (0 + size φ) (omega arith) (omega arith) (omega arith) (ordered-entries (entryAt bytes) 0 φ o refl)

@@ -4,11 +4,11 @@
 use mathlib.Core.Path.{_≡_, refl, ap, ap₂, _∙_}
 use mathlib.Core.Bool.{Bool, true, false, not, _&&_, _||_}
 use mathlib.Core.List.{List}
-use Prim.Native.Nat.{ℕ, _%_, _<_, _≤_}
+use Prim.Native.Nat.{ℕ, _*_, _/_, _%_, _<_, _≤_}
 use native.Mathlib.Omega.{arith}
 use lib.Dec.{eqb, leb, ltb}
 use lib.ListN.{length, getD}
-use borrow.Author.Tests.{leb-false, ltb-false}
+use borrow.Author.Tests.{leb-false, ltb-false, le-ltb, eq-eqb, ne-eqb}
 use Rattle.semantics.specs.Formula.{Formula, depth, falsum, neg, conj, disj, atLeast, atMost}
 use Rattle.semantics.specs.Structure.{Structure}
 use Rattle.semantics.specs.Truth.{truth}
@@ -19,7 +19,7 @@ use Rattle.faults.proofs.Each.{not-refused, neither, both-accepted, each-accept
 use Rattle.table.specs.declared.entry.Entry.{Entry}
 use Rattle.table.specs.Entry.{entryAt, size}
 use Rattle.table.specs.Formulas.{kinds, formulaOf, formulaAt, depthAt, depthOf}
-use Rattle.table.specs.Check.{usesOf, hasStray, refersUp, entryVerdict, lengthFaulty, tableVerdict}
+use Rattle.table.specs.Check.{usesOf, hasStray, refersUp, entryVerdict, entriesVerdict, lengthFaulty, tableVerdict}
 use Rattle.table.proofs.Cases.{by-kind}
 use Rattle.table.proofs.Formulas.{earlier, earlier-below, formulaAt-earlier, truthOf, truth-formulaOf, depth-formulaOf}
 use Rattle.table.specs.Formed.{Fitting, WellFormed}
@@ -90,3 +90,14 @@ module _ (bytes : List ℕ) (ok : tableVerdict bytes ≡ Accepted) where
       let long = not-refused (lengthFaulty (length bytes)) TableLength (both-accepted (refuseIf (lengthFaulty (length bytes)) TableLength) _ ok .0) in
       let short = neither (eqb (length bytes) 0) (ltb 256 (length bytes)) (neither (eqb (length bytes) 0 || ltb 256 (length bytes)) (not (eqb (length bytes % 4) 0)) long .0) .1 in
       omega (arith, ltb-false 256 (length bytes) short)
+
+-- a table is accepted if it has 1 to 64 entries, and each of them is
+pub entries-accepted : (bytes : List ℕ) (n : ℕ) → length bytes ≡ 4 * n → 1 ≤ n → n ≤ 64 → entriesVerdict (entryAt bytes) n ≡ Accepted
+    → tableVerdict bytes ≡ Accepted
+unfolding tableVerdict
+entries-accepted bytes n long some few each-is =
+    let not-empty : eqb (length bytes) 0 ≡ false = ne-eqb (length bytes) 0 (λ e. omega arith) in
+    let not-many : ltb 256 (length bytes) ≡ false = le-ltb 256 (length bytes) (omega arith) in
+    let whole : eqb (length bytes % 4) 0 ≡ true = eq-eqb (length bytes % 4) 0 (omega arith) in
+    let all : length bytes / 4 ≡ n = omega arith in
+    rw (not-empty, not-many, whole, all) each-is

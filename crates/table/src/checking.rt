@@ -70,7 +70,7 @@ fn check_fields(word: u32, i: usize) -> Verdict
 }
 
 // The first fault of a packed entry, as entry number i: 2, then 3, then 4.
-fn check_entry(word: u32, i: usize) -> Verdict
+pub fn check_entry(word: u32, i: usize) -> Verdict
     ensures { λ r. ⌜ r ≡ entryVerdict (entryOf word) i ⌝ }
 {
     let e = Entry::unpack(word);

@@ -7,7 +7,7 @@
 //! - [`trial`]: what the programs share that try random inputs.
 //! - [`xorshift`]: a seeded generator for random inputs.
 //!
-//! The programs `differential`, `texts`, `boards`, `deepest`, `bench` and `slowest` stand in `src/bin`.
+//! The programs `differential`, `texts`, `drafts`, `boards`, `deepest`, `bench` and `slowest` stand in `src/bin`.
 
 pub mod boards;
 pub mod independent;

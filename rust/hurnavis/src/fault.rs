@@ -6,8 +6,9 @@ use std::fmt;
 /// Why a call was refused. A refused call changes nothing that was lent to it.
 ///
 /// The first fault in order counts: 1; then entry by entry 2, 3, 4; then 6; then record by record 7, 8; then 9; then 10. A call
-/// skips what it does not take. The faults of a typed text are in the order 11, 12, 10. Later calls add faults. No fault has the
-/// number 5: it was for depths over 63, which no table has that is accepted otherwise.
+/// skips what it does not take. The faults of a typed text are in the order 11, 12, 10, those of a step on a draft in the order
+/// 16, 1, 2, 3, 4. Later calls add faults. No fault has the number 5: it was for depths over 63, which no table has that is
+/// accepted otherwise.
 ///
 /// ```
 /// use hurnavis::{check_table, Fault};
@@ -21,7 +22,7 @@ use std::fmt;
 #[derive(Clone, Copy, Debug, PartialEq, Eq, PartialOrd, Ord, Hash)]
 #[non_exhaustive]
 pub enum Fault {
-    /// 1: a table of length 0, over 256 bytes, or not a multiple of 4.
+    /// 1: a table of length 0, over 256 bytes, or not a multiple of 4. For [`Draft::add`](crate::Draft::add), a 65th entry.
     TableLength = 1,
     /// 2: a kind from 8 to 15.
     Kind = 2,
@@ -44,10 +45,12 @@ pub enum Fault {
     TextGrammar = 11,
     /// 12: a text of over 1,024 bytes, with a number over 255 or with over 64 entries.
     TextLimit = 12,
+    /// 16: a draft that no steps from a fresh one give, a name over 15 or, when coming back, one that is not saved.
+    Draft = 16,
 }
 
 /// Every fault, in the order of the numbers.
-const ALL: [Fault; 11] = [
+const ALL: [Fault; 12] = [
     Fault::TableLength,
     Fault::Kind,
     Fault::UnusedField,
@@ -59,6 +62,7 @@ const ALL: [Fault; 11] = [
     Fault::Space,
     Fault::TextGrammar,
     Fault::TextLimit,
+    Fault::Draft,
 ];
 
 impl Fault {
@@ -94,6 +98,9 @@ impl Fault {
             Fault::TextLimit => {
                 "the text is over 1,024 bytes long, has a number over 255, or makes over 64 entries"
             }
+            Fault::Draft => {
+                "no steps from a fresh draft give this one, or the name is over 15 or not saved"
+            }
         }
     }
 }
@@ -112,11 +119,12 @@ mod tests {
 
     #[test]
     fn numbers_go_both_ways() {
-        for (number, fault) in [1, 2, 3, 4, 6, 7, 8, 9, 10, 11, 12].into_iter().zip(ALL) {
+        let numbers = [1, 2, 3, 4, 6, 7, 8, 9, 10, 11, 12, 16];
+        for (number, fault) in numbers.into_iter().zip(ALL) {
             assert_eq!(fault.number(), number);
             assert_eq!(Fault::from_number(number), Some(fault));
         }
-        for unused in [0, 5, 13] {
+        for unused in [0, 5, 13, 14, 15, 17] {
             assert_eq!(Fault::from_number(unused), None);
         }
     }

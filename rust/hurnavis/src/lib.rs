@@ -29,6 +29,7 @@
 //!   that is being written, and [`print_text`] goes the other way.
 //! - [`decide`] and [`mark`] answer; [`work_words`] says how many words to lend to them.
 //! - [`board`] says at which worlds of one structure the descriptions hold.
+//! - A [`Draft`] grows by one [`entry`] after the other; it can be saved under names, and one can come back to what was saved.
 //! - A call that is refused returns a [`Fault`], which says in words what is wrong. It has then changed nothing.
 //!
 //! No call keeps a pointer or any state: threads may call at the same time, each with words of its own.
@@ -38,7 +39,8 @@
 #![deny(unsafe_code)]
 #![warn(missing_docs)]
 
-mod entry;
+mod draft;
+pub mod entry;
 mod fault;
 mod mark;
 #[allow(unsafe_code)]
@@ -47,6 +49,7 @@ mod structure;
 mod text;
 mod writer;
 
+pub use draft::Draft;
 pub use fault::Fault;
 pub use mark::Mark;
 pub use structure::StructureWriter;

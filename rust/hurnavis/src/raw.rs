@@ -44,6 +44,10 @@ extern "C" {
         table_len: usize,
         entries: *mut u8,
     ) -> u32;
+    fn hurnavis_draft_new(draft: *mut u8, draft_len: usize) -> u32;
+    fn hurnavis_draft_add(draft: *mut u8, draft_len: usize, entry: u32) -> u32;
+    fn hurnavis_draft_save(draft: *mut u8, draft_len: usize, name: u8) -> u32;
+    fn hurnavis_draft_back(draft: *mut u8, draft_len: usize, name: u8) -> u32;
 }
 
 // Each call below is safe: a slice's pointer is valid for its length while the call runs, what is lent for writing is
@@ -119,4 +123,28 @@ pub fn read_text(text: &[u8], table: &mut [u8], entries: &mut u8) -> u32 {
             entries,
         )
     }
+}
+
+/// 0 with a fresh draft in `draft`, whatever stood in it.
+#[must_use]
+pub fn draft_new(draft: &mut [u8]) -> u32 {
+    unsafe { hurnavis_draft_new(draft.as_mut_ptr(), draft.len()) }
+}
+
+/// 0 with the entry behind the others.
+#[must_use]
+pub fn draft_add(draft: &mut [u8], entry: u32) -> u32 {
+    unsafe { hurnavis_draft_add(draft.as_mut_ptr(), draft.len(), entry) }
+}
+
+/// 0 with the draft saved under the name.
+#[must_use]
+pub fn draft_save(draft: &mut [u8], name: u8) -> u32 {
+    unsafe { hurnavis_draft_save(draft.as_mut_ptr(), draft.len(), name) }
+}
+
+/// 0 with the entries that were saved under the name, and those alone.
+#[must_use]
+pub fn draft_back(draft: &mut [u8], name: u8) -> u32 {
+    unsafe { hurnavis_draft_back(draft.as_mut_ptr(), draft.len(), name) }
 }

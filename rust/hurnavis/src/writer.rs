@@ -1,10 +1,7 @@
 //! Writes a table entry by entry.
 
-use crate::entry::{self, AND, AT_LEAST, AT_MOST, FACT, FALSE, MOST_ENTRIES, NOT, OR, TRUE};
+use crate::entry::{self, MOST_ENTRIES};
 use crate::{read_text, Fault};
-
-/// The greatest entry number that fits into a reference.
-const GREATEST_REFERENCE: usize = MOST_ENTRIES - 1;
 
 /// A table under construction: each method writes one description, an entry, and returns its number, by which later
 /// entries and the calls name it.
@@ -59,42 +56,42 @@ impl Writer {
 
     /// True, everywhere.
     pub fn truth(&mut self) -> usize {
-        self.entry(TRUE, 0, 0, 0, 0)
+        self.push(entry::truth())
     }
 
     /// False, everywhere.
     pub fn falsity(&mut self) -> usize {
-        self.entry(FALSE, 0, 0, 0, 0)
+        self.push(entry::falsity())
     }
 
     /// The fact of this name.
     pub fn fact(&mut self, name: u8) -> usize {
-        self.entry(FACT, name, 0, 0, 0)
+        self.push(entry::fact(name))
     }
 
     /// Not the part.
     pub fn not(&mut self, part: usize) -> usize {
-        self.entry(NOT, 0, part, 0, 0)
+        self.push(entry::not(part))
     }
 
     /// The first and the second.
     pub fn and(&mut self, first: usize, second: usize) -> usize {
-        self.entry(AND, 0, first, second, 0)
+        self.push(entry::and(first, second))
     }
 
     /// The first or the second, or both.
     pub fn or(&mut self, first: usize, second: usize) -> usize {
-        self.entry(OR, 0, first, second, 0)
+        self.push(entry::or(first, second))
     }
 
     /// At least so many links of the relation lead to worlds where the part holds.
     pub fn at_least(&mut self, grade: u8, relation: u8, part: usize) -> usize {
-        self.entry(AT_LEAST, relation, part, 0, grade)
+        self.push(entry::at_least(grade, relation, part))
     }
 
     /// At most so many links of the relation lead to worlds where the part holds.
     pub fn at_most(&mut self, grade: u8, relation: u8, part: usize) -> usize {
-        self.entry(AT_MOST, relation, part, 0, grade)
+        self.push(entry::at_most(grade, relation, part))
     }
 
     /// All of the parts, by an "and" between each two; true, if there are none.
@@ -136,29 +133,17 @@ impl Writer {
         for entry in entry::entries(&table[..4 * count]) {
             let mut parts = entry.parts().map(|part| before + part);
             let (first, second) = (parts.next().unwrap_or(0), parts.next().unwrap_or(0));
-            self.entry(entry.kind, entry.name, first, second, entry.grade);
+            let moved = entry::pack(entry.kind, entry.name, first, second, entry.grade);
+            self.push(moved);
         }
         Ok(before + count - 1)
     }
 
-    /// Kind 4 bits, name 8, first 6, second 6, grade 8, most significant first.
-    fn entry(&mut self, kind: u32, name: u8, first: usize, second: usize, grade: u8) -> usize {
-        let fields = [
-            kind << 28,
-            u32::from(name) << 20,
-            reference(first) << 14,
-            reference(second) << 8,
-            u32::from(grade),
-        ];
-        self.entries.push(fields.into_iter().sum());
+    /// The entry behind the others. The number is its own.
+    fn push(&mut self, entry: u32) -> usize {
+        self.entries.push(entry);
         self.entries.len() - 1
     }
-}
-
-/// A number that does not fit becomes the greatest that does. In a table of up to 64 entries that one is no smaller than the
-/// entry's own number, so that the table is refused as it has to be; a longer table is refused anyway.
-fn reference(to: usize) -> u32 {
-    to.min(GREATEST_REFERENCE) as u32
 }
 
 #[cfg(test)]
@@ -226,15 +211,5 @@ mod tests {
         assert_eq!(check_table(&table.bytes()), Ok(()));
         assert_eq!(table.text(&text), Ok(95));
         assert_eq!(check_table(&table.bytes()), Err(Fault::TableLength));
-    }
-
-    #[test]
-    fn each_field_has_its_place() {
-        let mut table = Writer::new();
-        table.entry(15, 255, 0, 0, 0);
-        table.entry(0, 0, 63, 0, 0);
-        table.entry(0, 0, 0, 63, 255);
-        let bytes = [[0xff, 0xf0, 0, 0], [0, 0x0f, 0xc0, 0], [0, 0, 0x3f, 0xff]];
-        assert_eq!(table.bytes(), bytes.concat());
     }
 }

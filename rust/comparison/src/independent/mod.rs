@@ -7,10 +7,12 @@
 //!   entries' first, and a relation's counts are found by adding up successors.
 //! - [`drawn`]: small structures, to look for worlds by trying.
 //! - [`text`]: typed descriptions.
+//! - [`draft`]: drafts to return to.
 //!
 //! Where its limits are reached, the independent side says `None` and does not guess.
 
 pub mod counts;
+pub mod draft;
 pub mod drawn;
 pub mod realisable;
 pub mod refusals;

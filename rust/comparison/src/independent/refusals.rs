@@ -41,7 +41,8 @@ fn used(kind: u8) -> Option<Used> {
     })
 }
 
-fn check_entry(number: usize, e: Entry) -> Result<(), Fault> {
+/// An entry's first fault at the place with this number: 2, 3, 4.
+pub fn check_entry(number: usize, e: Entry) -> Result<(), Fault> {
     let Some(used) = used(e.kind) else {
         return Err(Fault::Kind);
     };

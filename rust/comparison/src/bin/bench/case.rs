@@ -1,12 +1,14 @@
 //! One measured call, on either side.
 
-use hurnavis::{work_words, Fault};
+use hurnavis::{work_words, Draft, Fault};
+use hurnavis_comparison::independent::draft::{plain, Step};
 use hurnavis_comparison::independent::realisable::Limits;
 use hurnavis_comparison::independent::{self, refusals, text};
 use hurnavis_comparison::layout::MOST_ENTRIES;
+use std::hint::black_box;
 use std::time::{Duration, Instant};
 
-/// A table and what is asked about it; a text has no table yet.
+/// A table and what is asked about it; a text has no table yet, and a draft has its own.
 pub struct Case {
     pub table: Vec<u8>,
     pub question: Question,
@@ -21,6 +23,8 @@ pub enum Question {
     Mark(usize, usize),
     /// The table of this text.
     Read(Vec<u8>),
+    /// The step on this draft.
+    Step(Box<Draft>, Step),
 }
 
 /// An answer in words and the time that one call took.
@@ -34,6 +38,8 @@ const REPEAT: Duration = Duration::from_millis(40);
 /// At least so many times, unless that takes too long.
 const FEW: u32 = 5;
 const SLOW: Duration = Duration::from_millis(500);
+/// A step is so quick that so many are measured together.
+const STEPS: u32 = 100;
 
 impl Case {
     /// The library's answer and time.
@@ -61,6 +67,10 @@ impl Case {
                 let mut lent = [0; 4 * MOST_ENTRIES];
                 repeated(|| read(hurnavis::read_text(text, &mut lent)))
             }
+            Question::Step(draft, step) => steps(draft.as_ref(), |draft| {
+                taken(draft, *step)?;
+                Ok(draft.count())
+            }),
         }
     }
 
@@ -93,6 +103,10 @@ impl Case {
             Question::Read(text) => Some(repeated(|| {
                 let entries = text::read(text, 4 * MOST_ENTRIES);
                 read(entries.map(|entries| entries.len()))
+            })),
+            Question::Step(draft, step) => Some(steps(draft.bytes(), |bytes| {
+                plain::step(bytes, *step)?;
+                Ok(bytes[4 * MOST_ENTRIES].into())
             })),
         }
     }
@@ -127,6 +141,34 @@ pub fn read(result: Result<usize, Fault>) -> String {
     match result {
         Ok(entries) => format!("entries {entries}"),
         Err(fault) => format!("refused {}", fault.number()),
+    }
+}
+
+/// The library's call for the step.
+fn taken(draft: &mut Draft, step: Step) -> Result<(), Fault> {
+    match step {
+        Step::New => *draft = Draft::new(),
+        Step::Add(entry) => draft.add(entry)?,
+        Step::Save(name) => draft.save(name)?,
+        Step::Back(name) => draft.back(name)?,
+    }
+    Ok(())
+}
+
+/// The number of entries after a step, and its time, which includes that of copying the draft.
+fn steps<T: Clone>(start: &T, step: impl Fn(&mut T) -> Result<usize, Fault>) -> Measured {
+    let many = repeated(|| {
+        let mut entries = Ok(0);
+        for _ in 0..STEPS {
+            let mut draft = start.clone();
+            entries = step(black_box(&mut draft));
+            black_box(&draft);
+        }
+        read(entries)
+    });
+    Measured {
+        time: many.time / STEPS,
+        ..many
     }
 }
 

@@ -1,16 +1,17 @@
 //! Benchmarks: the library beside the independent side, both built for release, in one run.
 //!
 //! `bench` prints a Markdown table with one row a family, the slowest of its sizes, and behind it the open cases: what takes
-//! longer than 10 ms. A table of texts follows, with a row for each size. The rows of all sizes go to `bench.md` in the target
-//! directory. `bench --family TEXT` runs only the families whose name contains the text. Each size runs in a process of its own,
-//! because a call cannot be interrupted: the process ends itself when a call takes over 2 seconds, and a growing family stops
-//! there.
+//! longer than 10 ms. Tables of texts and of drafts follow, with a row for each size. The rows of all sizes go to `bench.md` in
+//! the target directory. `bench --family TEXT` runs only the families whose name contains the text. Each size runs in a process
+//! of its own, because a call cannot be interrupted: the process ends itself when a call takes over 2 seconds, and a growing
+//! family stops there.
 
 mod bounded;
 mod case;
 mod chains;
 mod colours;
 mod cycles;
+mod drafts;
 mod families;
 mod numbers;
 mod overlaps;
@@ -89,6 +90,13 @@ fn measure(part: &str) -> Result<(), String> {
             println!("{}", row.text(family));
         }
     }
+    println!("\n{}", row::DRAFTS);
+    for family in drafts::DRAFTS.iter().filter(|f| f.name.contains(part)) {
+        for row in rows(family)? {
+            writeln!(file, "{}", row.raw(family)).map_err(no_file)?;
+            println!("{}", row.draft(family));
+        }
+    }
     eprintln!("the rows of all sizes: {}", path.display());
     Ok(())
 }
@@ -149,6 +157,7 @@ fn read(text: &str, side: &str) -> Option<Measured> {
 fn one(family: &str, size: &str) -> ExitCode {
     let family = families::all()
         .chain(texts::TEXTS)
+        .chain(drafts::DRAFTS)
         .find(|f| f.name == family);
     let (Some(family), Ok(size)) = (family, size.parse::<usize>()) else {
         return ExitCode::FAILURE;

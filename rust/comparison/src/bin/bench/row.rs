@@ -18,6 +18,9 @@ pub const SUMMARY: &str = "\
 pub const TEXTS: &str = "\
 | text | bytes | answer | Hurnavis | for a byte | independent | ratio |
 |---|---|---|---|---|---|---|";
+pub const DRAFTS: &str = "\
+| step | entries | answer | Hurnavis | independent | ratio |
+|---|---|---|---|---|---|";
 
 /// One size; nothing where a side took too long or gave up.
 pub struct Row {
@@ -83,6 +86,19 @@ impl Row {
             self.answer(),
             self.shown_time(),
             self.hurnavis.as_ref().map_or("".into(), for_a_byte),
+            shown(&self.independent, "gives up"),
+            self.ratio(),
+        )
+    }
+
+    /// The row of the table of drafts, of which the size is the number of entries.
+    pub fn draft(&self, family: &Family) -> String {
+        format!(
+            "| {} | {} | {} | {} | {} | {} |",
+            family.name,
+            self.size,
+            self.answer(),
+            self.shown_time(),
             shown(&self.independent, "gives up"),
             self.ratio(),
         )
