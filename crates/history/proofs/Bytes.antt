@@ -64,29 +64,33 @@ same-spelt a b at (suc width) small-a small-b same j h =
     (λ (g : ¬ (j < width)). let here : j ≡ width = omega arith in rw here last)
 
 -- a draft is packed in one way: what it shows fixes each byte
+module _ (a b : List ℕ) (small-a : (k : ℕ) → getD a k 0 < 256) (small-b : (k : ℕ) → getD b k 0 < 256) (same : draftIn a ≡ draftIn b) where
+  same-entry : (i j : ℕ) → i < 64 → j < 4 → getD a (4 * i + j) 0 ≡ getD b (4 * i + j) 0
+  unfolding draftIn wordAt
+  same-entry i j h l =
+      same-spelt a b (4 * i) 4 small-a small-b
+      (sym (getD-listed (wordAt a) 64 i h) ∙ ap (λ (x : DraftValue). getD (x .entries) i 0) same ∙ getD-listed (wordAt b) 64 i h)
+      j l
+
+  same-length : (name : ℕ) → name < 16 → getD a (257 + name) 0 ≡ getD b (257 + name) 0
+  unfolding draftIn
+  same-length name h =
+      sym (getD-listed (λ n. getD a (257 + n) 0) 16 name h)
+      ∙ ap (λ (x : DraftValue). getD (x .saved) name 0) same
+      ∙ getD-listed (λ n. getD b (257 + n) 0) 16 name h
+
+  same-byte : (k : ℕ) → k < 273 → getD a k 0 ≡ getD b k 0
+  unfolding draftIn
+  same-byte k h =
+      by-cases (decLt k 256)
+      (λ (l : k < 256).
+      let at : 4 * (k / 4) + k % 4 ≡ k = omega arith in
+      rw at at (same-entry (k / 4) (k % 4) (omega arith) (omega arith)))
+      (λ (g : ¬ (k < 256)).
+      by-cases (decLt 256 k)
+      (λ (l : 256 < k). let at : 257 + (k - 257) ≡ k = omega arith in rw at at (same-length (k - 257) (omega arith)))
+      (λ (other : ¬ (256 < k)). let at : k ≡ 256 = omega arith in rw at (ap (λ (x : DraftValue). x .count) same)))
+
 pub packed-once : (d : DraftValue) (a b : List ℕ) → ((k : ℕ) → getD a k 0 < 256) → ((k : ℕ) → getD b k 0 < 256) → Packs d a → Packs d b → a ≡ b
-unfolding draftIn wordAt
 packed-once d a b small-a small-b pa pb =
-    ext-getD 0 a b (pa .long ∙ sym (pb .long))
-    (λ k h.
-    by-cases (decLt k 256)
-    (λ (l : k < 256).
-    let i = k / 4 in
-    let at : 4 * (k / 4) + k % 4 ≡ k = omega arith in
-    let word : bigEndian a (4 * (k / 4)) 4 ≡ bigEndian b (4 * (k / 4)) 4 =
-    sym (getD-listed (λ j. bigEndian a (4 * j) 4) 64 (k / 4) (omega arith))
-    ∙ ap (λ (x : DraftValue). getD (x .entries) (k / 4) 0) (pa .same ∙ sym (pb .same))
-    ∙ getD-listed (λ j. bigEndian b (4 * j) 4) 64 (k / 4) (omega arith)
-    in
-    rw at at (same-spelt a b (4 * (k / 4)) 4 small-a small-b word (k % 4) (omega arith)))
-    (λ (g : ¬ (k < 256)).
-    by-cases (decLt 256 k)
-    (λ (l : 256 < k).
-    let at : 257 + (k - 257) ≡ k = omega arith in
-    let same : getD a (257 + (k - 257)) 0 ≡ getD b (257 + (k - 257)) 0 =
-    sym (getD-listed (λ j. getD a (257 + j) 0) 16 (k - 257) (omega (arith, pa .long)))
-    ∙ ap (λ (x : DraftValue). getD (x .saved) (k - 257) 0) (pa .same ∙ sym (pb .same))
-    ∙ getD-listed (λ j. getD b (257 + j) 0) 16 (k - 257) (omega (arith, pa .long))
-    in
-    rw at at same)
-    (λ (other : ¬ (256 < k)). let at : k ≡ 256 = omega arith in rw at (ap (λ (x : DraftValue). x .count) (pa .same ∙ sym (pb .same))))))
+    ext-getD 0 a b (pa .long ∙ sym (pb .long)) (λ k h. same-byte a b small-a small-b (pa .same ∙ sym (pb .same)) k (omega (arith, pa .long)))

@@ -1,6 +1,6 @@
 -- What the calls come to: document 02, P9. Each theorem speaks of any answer that keeps the promise of its call, on drafts by value
 -- (`Shows`) or packed (`BytesShow`).
-use mathlib.Core.Path.{_≡_, refl, sym, _∙_}
+use mathlib.Core.Path.{_≡_, refl, sym, ap, _∙_}
 use mathlib.Core.Logic.{_↔_, _⊎_, inl, inr, ⊎-elim}
 use mathlib.Core.Bool.{Bool, true, false, _||_}
 use mathlib.Core.List.{List, [], _∷_}
@@ -9,7 +9,7 @@ use Prim.Native.Nat.{ℕ, _+_, _≤_, _<_}
 use native.Mathlib.Omega.{arith}
 use lib.Dec.{eqb, leb, ltb}
 use lib.ListN.{length, getD}
-use borrow.Author.Tests.{eqb-true, eqb-false, leb-true, le-leb, ltb-true, lt-ltb}
+use borrow.Author.Tests.{eqb-true, eqb-false, leb-true, le-leb, lt-leb, ltb-true, lt-ltb}
 use Rattle.faults.specs.declared.Fault.the-variants.{TableLength, Kind, UnusedField, Reference, Draft}
 use Rattle.faults.specs.declared.Verdict.{Verdict}
 use Rattle.faults.specs.declared.Verdict.the-variants.{Accepted, Refused}
@@ -63,7 +63,6 @@ draft-known d whole = by-verdict (draftVerdict d) refl
     by-verdict (Refused f) is = inr (λ given. let ok = given-accepted d whole .0 given in let z : _≡_ {A = ℕ} 0 1 = cc in absurd (omega arith))
 
 pub bytes-known : (bytes : List ℕ) → Given BytesShow bytes ⊎ (Given BytesShow bytes → ⊥)
-unfolding draftIn
 bytes-known bytes = by-length (eqb (length bytes) 273) refl
   where
     by-length : (b : Bool) → eqb (length bytes) 273 ≡ b → Given BytesShow bytes ⊎ (Given BytesShow bytes → ⊥)
@@ -145,6 +144,14 @@ module _ {A : Type 0} (shows : A → State → Type 0) (before after : A) (numbe
         known,
     λ full. is .given (full .0) (full .1) .0 ∙ add-full w (full .0) .1 (full .2),
   )
+
+  -- and where there is room, the number of the entry's own first fault at its place: 2, 3, 4, or 0 where it has none
+  pub add-entry : (w : ℕ) → Answers shows (Add w) before after number → (steps : List Step) → shows before (state steps)
+      → length (state steps .entries) < 64 → number ≡ refusal (entryVerdict (entryOf w) (length (state steps .entries)))
+  add-entry w is steps given room =
+      is .given steps given .0
+      ∙ ap (λ (b : Bool). refusal (andThen (refuseIf b TableLength) (entryVerdict (entryOf w) (length (state steps .entries)))))
+      (lt-leb 64 (length (state steps .entries)) room)
 
   -- saving: 16 exactly for such a draft or a name over 15
   pub save-16 : (name : ℕ) → Answers shows (Save name) before after number → (number ≡ 16) ↔ ((Given shows before → ⊥) ⊎ (15 < name))
