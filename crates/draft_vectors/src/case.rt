@@ -47,7 +47,7 @@ fn same(a: Draft, b: Draft) -> bool {
 }
 
 // A step with the number that it is to answer; a refused one leaves the draft as it was.
-pub fn answers(tally: Tally, before: Draft, step: Stepped, expected: u8) -> Tally {
+fn answers(tally: Tally, before: Draft, step: Stepped, expected: u8) -> Tally {
     let verdict = step.verdict;
     let after = step.draft;
     let got = verdict.number();
@@ -69,10 +69,10 @@ fn step(draft: Draft, letter: u8, operand: u8) -> Stepped {
     }
 }
 
-// Four letters are a step: what it is, its operand, the number that it is to answer, and a space.
-pub fn run(before: Tally, steps: &[u8]) -> Ended {
+// Steps on a draft. Four letters are a step: what it is, its operand, the number that it is to answer, and a space.
+pub fn from(before: Tally, start: Draft, steps: &[u8]) -> Ended {
     let mut tally = before;
-    let mut draft = hurnavis::draft_new();
+    let mut draft = start;
     for k in 0..steps.len() / 4 {
         let i = 4 * k;
         let taken = step(draft, steps[i], steps[i + 1]);
@@ -83,6 +83,11 @@ pub fn run(before: Tally, steps: &[u8]) -> Ended {
         draft: draft,
         tally: tally,
     }
+}
+
+// Steps on a fresh draft.
+pub fn run(before: Tally, steps: &[u8]) -> Ended {
+    from(before, hurnavis::draft_new(), steps)
 }
 
 fn letter(letters: &[u8], i: usize, other: u8) -> u8 {
@@ -126,12 +131,15 @@ fn shows(draft: Draft, entries: &[u8], saved: &[u8]) -> bool {
     draft.count as usize == entries.len()
 }
 
-// Steps, and the draft that they give.
-pub fn ends(before: Tally, steps: &[u8], entries: &[u8], saved: &[u8]) -> Tally {
-    let last = run(before, steps);
+// The draft that steps give is to have these entries and saved lengths.
+pub fn gives(last: Ended, entries: &[u8], saved: &[u8]) -> Tally {
     let tally = last.tally;
     if shows(last.draft, entries, saved) {
         return tally.case(0, 0);
     }
     tally.case(DIFFERENT, 0)
+}
+
+pub fn ends(before: Tally, steps: &[u8], entries: &[u8], saved: &[u8]) -> Tally {
+    gives(run(before, steps), entries, saved)
 }

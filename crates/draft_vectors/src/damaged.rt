@@ -1,5 +1,5 @@
 // Drafts that no sequence of steps gives: every call refuses them with 16, before anything else.
-use crate::case::answers;
+use crate::case::from;
 use crate::case::run;
 use crate::letters::entry;
 use draft_bytes::Tabled;
@@ -14,17 +14,13 @@ fn table_refusal(draft: Draft) -> u64 {
     }
 }
 
-// Every step, good and bad ones, and the table.
+// Every step, and the table: all are refused, or none is.
 fn every(before: Tally, draft: Draft, expected: u8) -> Tally {
-    let mut tally = answers(
-        before,
-        draft,
-        hurnavis::draft_add(draft, entry(b'1')),
-        expected,
-    );
-    tally = answers(tally, draft, hurnavis::draft_save(draft, 0), expected);
-    tally = answers(tally, draft, hurnavis::draft_back(draft, 3), expected);
-    tally.case(table_refusal(draft), expected as u64)
+    let tally = before.case(table_refusal(draft), expected as u64);
+    if expected == 0 {
+        return from(tally, draft, b"+10 S00 B30 ").tally;
+    }
+    from(tally, draft, b"+1g +Kg S0g Szg B3g Beg ").tally
 }
 
 // Three entries, the name 3 saved with two of them, changed in a word.

@@ -1,6 +1,7 @@
 // The sentences of document 02, P9, and its limits.
-use crate::case::answers;
 use crate::case::ends;
+use crate::case::from;
+use crate::case::gives;
 use crate::case::run;
 use crate::letters::entry;
 use history::Draft;
@@ -76,8 +77,8 @@ pub fn refused(before: Tally) -> Tally {
 }
 
 // A draft with so many facts more.
-fn facts(from: Draft, n: usize) -> Draft {
-    let mut draft = from;
+fn facts(start: Draft, n: usize) -> Draft {
+    let mut draft = start;
     for i in 0..n {
         let step = hurnavis::draft_add(draft, entry(b'1'));
         draft = step.draft;
@@ -87,21 +88,17 @@ fn facts(from: Draft, n: usize) -> Draft {
 
 // "Adding a 65th entry gives 1", whatever the entry is; coming back makes room.
 pub fn full(before: Tally) -> Tally {
-    let start = run(before.subject(5000), b"+10 S00 ");
-    let last = facts(start.draft, 62);
-    let mut tally = start.tally.case(last.count as u64, 63);
-    tally = answers(tally, last, hurnavis::draft_add(last, entry(b'r')), 4);
-    let most = facts(last, 1);
-    tally = tally.case(most.count as u64, 64);
-    tally = answers(tally, most, hurnavis::draft_add(most, entry(b'1')), 1);
-    tally = answers(tally, most, hurnavis::draft_add(most, entry(b't')), 1);
-    tally = answers(tally, most, hurnavis::draft_add(most, entry(b'K')), 1);
-    let named = hurnavis::draft_save(most, 15);
-    tally = answers(tally, most, named, 0);
-    let back = hurnavis::draft_back(named.draft, 0);
-    tally = answers(tally, most, back, 0);
-    let less = back.draft;
-    tally = tally.case(less.count as u64, 1);
-    tally = answers(tally, less, hurnavis::draft_back(less, 15), 16);
-    answers(tally, less, hurnavis::draft_add(less, entry(b'1')), 0)
+    let first = run(before.subject(5000), b"+10 S00 ");
+    let most = from(
+        first.tally,
+        facts(first.draft, 62),
+        b"+r4 +20 +11 +t1 +k1 +K1 Sf0 Bf0 ",
+    );
+    let tally = most.tally.case(most.draft.count as u64, 64);
+    // 16 comes before 1.
+    let mut wrong = most.draft;
+    wrong.saved[5] = 65;
+    let refused = from(tally, wrong, b"+1g +Kg Bfg ");
+    let back = from(refused.tally, most.draft, b"+11 B00 Bfg +20 ");
+    gives(back, b"12", b"1")
 }

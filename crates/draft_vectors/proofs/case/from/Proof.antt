@@ -1,8 +1,8 @@
--- `run` is safe and ends. The measure: the steps that are left.
+-- `from` is safe and ends. The measure: the steps that are left.
 use Prim.Native.Nat.{_-_}
 use borrow.Author.Needs.{needs}
-use Rattle.draft_vectors.proofs.case.run.Statement.{statement}
-use Rattle.draft_vectors.proofs.case.run.Tie as tie
+use Rattle.draft_vectors.proofs.case.from.Statement.{statement}
+use Rattle.draft_vectors.proofs.case.from.Tie as tie
 
 abbrev Inv-loop : tie.InvT-loop
 Inv-loop steps tally₀ draft₀ k₀ k-end tally draft k = Unit {0}
@@ -10,13 +10,12 @@ Inv-loop steps tally₀ draft₀ k₀ k-end tally draft k = Unit {0}
 abbrev μ-loop : tie.MeasureT-loop
 μ-loop steps tally₀ draft₀ k₀ k-end tally draft k = k-end - k
 
-pub run-spec : {M : Type 1} → statement M
-run-spec =
+pub from-spec : {M : Type 1} → statement M
+from-spec =
     tie.close
     (tie.spec
     Inv-loop
     μ-loop
-    (λ c κs. search needs)
     (λ c. search needs)
     (λ c. search needs)
     (λ c. search needs)
