@@ -39,8 +39,8 @@ abbrev pub restored : Option (List ℕ) → State → State
 restored none s = s
 restored (some copy) s = record { entries = copy; saved = λ name. remembered (length copy) (s .saved name) }
 
--- "an engineer adds entries, saves the draft under a name 0 to 15 and comes back to it": what a step makes of a state, if it is not
--- refused. "Saving to a used name replaces it."
+-- what a step makes of a state, if it is not refused: ".. adds entries, saves the draft under a name 0 to 15 and comes back to it";
+-- "Saving to a used name replaces it."
 abbrev pub taken : Step → State → State
 taken (Add entry) s = record { entries = s .entries ++ (entry ∷ []); saved = s .saved }
 taken (Save name) s = record { entries = s .entries; saved = λ n. pick (eqb n name) (some (s .entries)) (s .saved n) }

@@ -12,7 +12,7 @@ pub struct Draft {
     pub count: u8,
 }
 
-// What an engineer does: adds an entry, saves the draft under a name, or comes back to one.
+// A step: an entry is added, the draft is saved under a name, or one comes back to a name.
 pub enum Step {
     Add(u32),
     Save(u8),
