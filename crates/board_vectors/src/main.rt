@@ -2,6 +2,7 @@
 // for an answer, and the words, and is compared with `hurnavis::board`. A case that comes out differently is reported
 // on a line.
 mod case;
+mod copies;
 mod counts;
 mod full;
 mod meanings;
@@ -88,5 +89,10 @@ fn main() {
     tally = full::records(tally);
     tally = full::chains(tally);
     tally = rings::rings(tally);
+    tally = copies::numbers(tally);
+    tally = copies::repeated(tally);
+    tally = copies::sums(tally);
+    tally = copies::greatest(tally);
+    tally = copies::fourfold(tally);
     tally.print(b"board vectors");
 }

@@ -59,6 +59,11 @@ impl Records {
         self.record(link_record(from, relation, to))
     }
 
+    // A link of 1 to 4 copies.
+    pub fn links(self, from: u32, relation: u32, to: u32, copies: u32) -> Records {
+        self.record(link_record(from, relation, to) | std::num::wrapping_sub_u32(copies, 1) % 4)
+    }
+
     // The same bytes, so many of them.
     pub fn cut(self, length: usize) -> Records {
         let bytes = self.bytes;

@@ -115,7 +115,7 @@ fn zero_bit_cases(before: Tally, others: Records, bits: u32, highest: u32) -> Ta
     tally
 }
 
-// The 16 of a header, the 8 of a fact, the 2 of a link; the bit above each of them is none.
+// The 16 of a header, the 8 of a fact; the bit above each of them is none, and a link has none.
 pub fn zero_bits(before: Tally) -> Tally {
     let three = Records::of(3);
     let mut tally = before.subject(4000);
@@ -127,7 +127,9 @@ pub fn zero_bits(before: Tally) -> Tally {
     );
     tally = zero_bit_cases(tally, three, fact_record(1, 2), 0x80);
     tally = answers(tally, true_at(7), three.record(fact_record(1, 2) | 0x100));
-    tally = zero_bit_cases(tally, three, link_record(1, 7, 2), 2);
+    tally = answers(tally, true_at(7), three.record(link_record(1, 7, 2) | 1));
+    tally = answers(tally, true_at(7), three.record(link_record(1, 7, 2) | 2));
+    tally = answers(tally, true_at(7), three.record(link_record(1, 7, 2) | 3));
     answers(tally, true_at(7), three.record(link_record(1, 7, 0) | 4))
 }
 
@@ -222,9 +224,10 @@ pub fn within_structure(before: Tally) -> Tally {
     tally = refused(tally, three.fact(3, 1).cut(8), 6);
     // 7 before 8 in one record.
     tally = refused(tally, three.record(fact_record(3, 1) | 1), 7);
-    tally = refused(tally, three.record(link_record(3, 7, 0) | 1), 7);
-    tally = refused(tally, three.record(link_record(0, 7, 3) | 2), 7);
     tally = refused(tally, three.record(0xff_ffff), 7);
+    // Copies are no reason for 7, and do not hide 8.
+    tally = refused(tally, three.record(link_record(3, 7, 0) | 1), 8);
+    tally = refused(tally, three.record(link_record(0, 7, 3) | 2), 8);
     // Of two records the earlier decides.
     tally = refused(tally, three.fact(3, 1).record(0xc0_0000), 8);
     tally = refused(tally, three.link(0, 7, 3).record(header(3)), 8);

@@ -1,5 +1,5 @@
 -- A loop that stops at the first refusal finds the verdict of the whole row: what was refused stays refused.
-use mathlib.Core.Path.{_≡_, refl, sym, _∙_}
+use mathlib.Core.Path.{_≡_, refl, sym, ap₂, _∙_}
 use mathlib.Core.Logic.{⊎-elim}
 use mathlib.Core.Bool.{Bool, true, false, _||_}
 use Prim.Native.Nat.{ℕ, zero, suc, _+_, _<_, _≤_, zero-le}
@@ -76,3 +76,9 @@ pub all-accepted : (v : ℕ → Verdict) (n : ℕ) → ((i : ℕ) → i < n → 
 unfolding each
 all-accepted v zero ok = refl
 all-accepted v (suc n) ok = rw (all-accepted v n (λ i h. ok i (omega arith))) (ok n (omega arith))
+
+-- checks that agree have the same verdict
+pub each-same : {v v′ : ℕ → Verdict} (n : ℕ) → ((i : ℕ) → i < n → v i ≡ v′ i) → each v n ≡ each v′ n
+unfolding each
+each-same zero h = refl
+each-same (suc n) h = ap₂ andThen (each-same n (λ i l. h i (omega arith))) (h n (omega arith))

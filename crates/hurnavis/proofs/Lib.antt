@@ -4,3 +4,5 @@ pub mod Demands
 pub mod Typed
 -- drafts: each refusal exactly when, and what the table of a draft is
 pub mod Drafts
+-- copies: the board beside the fourfold structure, and what is as it was
+pub mod Copies

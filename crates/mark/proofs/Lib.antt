@@ -4,3 +4,5 @@ pub mod Exactly
 pub mod Same
 -- what the engine answers about two entries
 pub mod Question
+-- every mark is as it is without copies
+pub mod Plain

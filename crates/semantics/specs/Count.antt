@@ -1,4 +1,4 @@
--- How often a test holds, in numbers.
+-- How often a test holds, in numbers; and sums.
 use mathlib.Core.Bool.{Bool, true, false}
 use Prim.Native.Nat.{ℕ, zero, suc, _+_}
 
@@ -16,3 +16,8 @@ count p (suc n) = bit (p n) + count p n
 abbrev pub gain : Bool → ℕ → ℕ
 gain true k = k
 gain false k = 0
+
+-- the sum of the numbers f 0, f 1, .. below a bound
+unfoldable pub sum : (ℕ → ℕ) → ℕ → ℕ
+sum f zero = 0
+sum f (suc n) = f n + sum f n

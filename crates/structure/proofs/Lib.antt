@@ -5,3 +5,5 @@ pub mod Accepted
 pub mod Stated
 -- masks that gain what a record states
 pub mod Masks
+-- drawings with no copies read as before
+pub mod Plain

@@ -1,4 +1,5 @@
--- Which packed structures are accepted, and the number that any other is refused with: document 01, faults 6 to 8 in its order.
+-- Which packed structures are accepted, and the number that any other is refused with: document 01, faults 6 to 8 in its order,
+-- with document 02, P7: a link's last two bits are no zero bits.
 use mathlib.Core.Bool.{Bool, true, false, not, _&&_, _||_}
 use mathlib.Core.List.{List, [], _∷_}
 use Prim.Native.Nat.{ℕ, _%_}
@@ -14,14 +15,13 @@ use Rattle.structure.specs.Record.{recordAt, records, worldsOf}
 abbrev pub misplaced : Record → ℕ → Bool
 misplaced r i = (eqb i 0 && not (eqb (r .kind) 0)) || (not (eqb i 0) && eqb (r .kind) 0)
 
--- a zero bit is 1: of the 16 of a header, the 8 of a fact, the 2 of a link
+-- a zero bit is 1: of the 16 of a header, the 8 of a fact. A link has none
 abbrev pub zeroBitSet : Record → Bool
 zeroBitSet r =
     not
     (getD
     ((eqb (r .name) 0 && eqb (r .to) 0 && eqb (r .copies) 0)
     ∷ (eqb (r .to) 0 && eqb (r .copies) 0)
-    ∷ eqb (r .copies) 0
     ∷ [])
     (r .kind)
     true)

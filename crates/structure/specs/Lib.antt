@@ -7,3 +7,5 @@ pub mod Read
 pub mod Masks
 -- the faults 6 to 8, in order
 pub mod Check
+-- how drawings read before copies
+pub mod Plain

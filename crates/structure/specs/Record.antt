@@ -7,7 +7,7 @@ use Rattle.packed.specs.Field.{field}
 use Rattle.structure.specs.declared.record.Record.{Record}
 
 -- a 2-bit kind; then 6 bits, the number of worlds less 1 of a header, the world of a fact, the `from` of a link;
--- then 8, the name of a fact or the relation of a link; then 6, the `to` of a link; then 2. The others are zero bits
+-- then 8, the name of a fact or the relation of a link; then 6, the `to` of a link; then 2, the copies of a link less 1. The others are zero bits
 abbrev pub recordOf : ℕ → Record
 recordOf word =
     record { kind = field word 22 2; world = field word 16 6; name = field word 8 8; to = field word 2 6; copies = field word 0 2 }

@@ -22,7 +22,7 @@ fn is_faulty(r: Record, i: usize) -> bool
     match kind {
         0 => r.name | r.to | r.copies != 0,
         1 => r.to | r.copies != 0,
-        2 => r.copies != 0,
+        2 => false,
         _ => true,
     }
 }

@@ -36,9 +36,10 @@ fn triple_at(bytes: &[u8], i: usize) -> u32
     big_endian(bytes, 3, i) as u32
 }
 
-// Record i of a structure. Its worlds have six bits, its name has eight.
+// Record i of a structure. Its worlds have six bits, its name has eight, its copies two.
 pub fn record_at(bytes: &[u8], i: usize) -> Record
-    ensures { λ r. ⌜ (r ≡ recordAt (now (bytes .entry)) i) × (r .world < 64) × (r .to < 64) × (r .name < 256) ⌝ }
+    ensures { λ r. ⌜ (r ≡ recordAt (now (bytes .entry)) i) × (r .world < 64) × (r .to < 64) × (r .name < 256)
+        × (r .copies < 4) ⌝ }
 {
     Record::unpack(triple_at(bytes, i))
 }

@@ -9,7 +9,7 @@ use Prim.Native.Nat.{ℕ, zero, suc, _+_, _<_, _≤_, min}
 use native.Mathlib.Nat.{not-suc-le-zero, eq-or-lt-of-le, le-of-suc-le-suc}
 use native.Mathlib.Omega.{arith}
 use Rattle.semantics.specs.Count.{gain}
-use Rattle.semantics.proofs.Successors.{gain-zero}
+use Rattle.semantics.proofs.Sum.{gain-zero}
 use Rattle.sets.specs.Word.{bitAt}
 use Rattle.tableau.specs.Counting.{lo, total, served, spent}
 use Rattle.tableau.specs.Search.{Slot, taken, rowsOf, Problem, Asks, Met, Kept, Choice, codesBelow}

@@ -11,7 +11,7 @@ use native.Mathlib.Omega.{arith}
 use lib.Dec.{eqb}
 use borrow.Author.Tests.{eqb-true, eq-eqb}
 use Rattle.semantics.specs.Count.{gain}
-use Rattle.semantics.proofs.Successors.{gain-zero}
+use Rattle.semantics.proofs.Sum.{gain-zero}
 use Rattle.sets.specs.Word.{bitAt}
 use Rattle.tableau.specs.Counting.{Row, total, All, need, hi, served, spent}
 use Rattle.tableau.specs.Search.{Slot, taken, rowsOf, Each, Problem, Asks, FitRow, Met, Kept, Solvable}

@@ -10,13 +10,13 @@ use Prim.Native.Nat.{ℕ, zero, suc, _+_, _-_, _*_, _/_, _<_, _≤_}
 use native.Mathlib.Nat.{le-refl, le-of-suc-le-suc, add-le-add, mul-le-mul, mul-add, add-mul, mul-suc, mul-comm, mul-left-comm, mul-assoc, mul-zero, zero-mul, zero-lt-suc, mul-one, lt-of-mul-lt-mul-left, div-add-mod, mod-lt}
 use native.Mathlib.Decide.{decLe}
 use native.Mathlib.Omega.{arith}
-use Rattle.semantics.specs.Count.{bit, gain}
+use Rattle.semantics.specs.Count.{bit, gain, sum}
 use Rattle.sets.specs.Word.{bitAt}
 use Rattle.tableau.specs.Counting.{Row, total, All, lo, hi, served, spent}
 use Rattle.tableau.specs.Search.{Slot, taken, rowsOf, Each, Problem, Asks, Extension}
 use Rattle.tableau.specs.Search.Choice.{done, some}
 use Rattle.tableau.specs.Listed.{In}
-use Rattle.tableau.specs.Weights.{sum, up, serves, costs, lack, room, Weighing, Refuted, RefutedWith}
+use Rattle.tableau.specs.Weights.{up, serves, costs, lack, room, Weighing, Refuted, RefutedWith}
 
 -- all successors of the rows, each with the weight of its row
 unfoldable weigh : (Row → ℕ) → List Row → ℕ

@@ -3,17 +3,12 @@
 -- With divisor 1 such weights exist wherever even fractions of copies do not fit (known as Farkas' lemma); that is not needed here.
 use mathlib.Core.Bool.{Bool, true, false, not}
 use mathlib.Core.List.{List}
-use Prim.Native.Nat.{ℕ, zero, suc, _+_, _-_, _*_, _/_, _<_, _≤_}
-use Rattle.semantics.specs.Count.{bit}
+use Prim.Native.Nat.{ℕ, _+_, _-_, _*_, _/_, _<_, _≤_}
+use Rattle.semantics.specs.Count.{bit, sum}
 use Rattle.sets.specs.Word.{bitAt}
 use Rattle.tableau.specs.Counting.{lo, hi, served, spent}
 use Rattle.tableau.specs.Search.{Slot, rowsOf, Problem, Asks}
 use Rattle.tableau.specs.Listed.{In}
-
--- the sum of the numbers f 0, f 1, .. below a bound
-unfoldable pub sum : (ℕ → ℕ) → ℕ → ℕ
-sum f zero = 0
-sum f (suc n) = f n + sum f n
 
 -- x / r, rounded up
 abbrev pub up : ℕ → ℕ → ℕ

@@ -3,13 +3,13 @@ use mathlib.Core.Path.{_≡_, refl}
 use mathlib.Core.List.{List, [], _∷_, map}
 use Prim.Native.Nat.{ℕ}
 use Rattle.semantics.specs.Formula.{Formula, verum, falsum, fact, neg, conj, atLeast, atMost}
-use Rattle.semantics.specs.Count.{count}
+use Rattle.semantics.specs.Count.{sum}
 use Rattle.semantics.specs.Structure.{Structure}
 use Rattle.semantics.specs.Truth.{truth}
 use Rattle.packed.specs.Bytes.{bigEndian}
 use Rattle.sets.specs.Word.{word}
 use Rattle.structure.specs.Record.{tripleAt}
-use Rattle.structure.specs.Read.{some, stated, structureOf}
+use Rattle.structure.specs.Read.{some, greatest, stated, structureOf}
 
 -- the build of document 01: three worlds, facts and links, one link stated twice
 pub build : Structure
@@ -46,5 +46,5 @@ examples =
     ∷ []
 
 pub m1-to-m9 : map (λ e. word (truth build (e .formula)) (build .worlds)) examples ≡ map (λ e. e .board) examples
-unfolding build example examples truth count word some stated tripleAt bigEndian
+unfolding build example examples truth sum word some greatest stated tripleAt bigEndian
 m1-to-m9 = refl

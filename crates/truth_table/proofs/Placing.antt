@@ -78,40 +78,28 @@ module _ (worlds used : ℕ) (places : List ℕ) (layout : Layout worlds used pl
   pub extended-known : 0 < placeOf places k₀ name₀ → Extended worlds used k₀ name₀ places places
   extended-known own = record { layout = layout; own = own; kept = λ k name h o. refl }
 
--- more room does no harm
-pub laid-wider : {entry : ℕ → Entry} {n worlds room : ℕ} (more : ℕ) {places rows : List ℕ} → Laid entry n worlds room places rows → room ≤ more
-    → Laid entry n worlds more places rows
-laid-wider more laid h = record {
-  layout = record {
-    keys = laid .layout .keys;
-    inside = λ k name l. omega (arith, laid .layout .inside k name l);
-    apart = laid .layout .apart;
-  };
-  row = laid .row;
-}
-
-module _ (entry : ℕ → Entry) (i worlds used : ℕ) (places rows : List ℕ) (laid : Laid entry i worlds used places rows) where
+module _ (entry : ℕ → Entry) (from i worlds used : ℕ) (places rows : List ℕ) (laid : Laid entry from i worlds used places rows) where
   -- an entry that asks for nothing
-  pub laid-skip : ((k : Bool) → Asks (entry i) k → ⊥) → Laid entry (i + 1) worlds used places rows
+  pub laid-skip : ((k : Bool) → Asks (entry i) k → ⊥) → Laid entry from (i + 1) worlds used places rows
   laid-skip none = record {
     layout = laid .layout;
-    row = λ j h k asks.
-        ⊎-elim (λ (e : j ≡ i). absurd (none k (rw e at asks))) (λ (b : j < i). laid .row j b k asks)
-        (eq-or-lt-of-le (le-of-suc-le-suc (rw (add-one i) at h)));
+    row = λ j h l k asks.
+        ⊎-elim (λ (e : j ≡ i). absurd (none k (rw e at asks))) (λ (b : j < i). laid .row j h b k asks)
+        (eq-or-lt-of-le (le-of-suc-le-suc (rw (add-one i) at l)));
   }
 
   -- an entry that asks for a row, which has a place now
   pub laid-more : {next : ℕ} {k₀ : Bool} {places′ : List ℕ} → Extended worlds next k₀ (entry i .name) places places′
       → ((k : Bool) → Asks (entry i) k → k ≡ k₀) → ((j : ℕ) → entry j .name < 256) → i < length rows
-      → Laid entry (i + 1) worlds next places′ (set rows i (placeOf places′ k₀ (entry i .name)))
+      → Laid entry from (i + 1) worlds next places′ (set rows i (placeOf places′ k₀ (entry i .name)))
   laid-more {next} {k₀} {places′} wider only named room = record {
     layout = wider .layout;
-    row = λ j h k asks.
+    row = λ j h l k asks.
         ⊎-elim
         (λ (e : j ≡ i). rw (e, only k (rw e at asks), getD-set-same rows i (placeOf places′ k₀ (entry i .name)) 0 room) (refl, wider .own))
         (λ (b : j < i).
-        let before = laid .row j b k asks in
+        let before = laid .row j h b k asks in
         let same = wider .kept k (entry j .name) (named j) (rw (before .0) at (before .1)) in
         rw (getD-set-other rows i j (placeOf places′ k₀ (entry i .name)) 0 (omega arith)) (before .0 ∙ sym same, before .1))
-        (eq-or-lt-of-le (le-of-suc-le-suc (rw (add-one i) at h)));
+        (eq-or-lt-of-le (le-of-suc-le-suc (rw (add-one i) at l)));
   }

@@ -5,15 +5,15 @@ use mathlib.Core.List.{List}
 use Prim.Native.Nat.{ℕ, _+_, _*_, _/_, _<_, _≤_}
 use native.Mathlib.Nat.{lt-irrefl, mul-one, mul-zero, zero-mul}
 use native.Mathlib.Omega.{arith}
-use Rattle.semantics.specs.Count.{bit, gain}
+use Rattle.semantics.specs.Count.{bit, gain, sum}
+use Rattle.semantics.proofs.Sum.{sum-same, sum-cut}
 use Rattle.sets.specs.Set.{both, butNot}
 use Rattle.sets.specs.Word.{bitAt}
 use Rattle.tableau.specs.Search.{Slot, Problem}
 use Rattle.tableau.specs.Listed.{In}
-use Rattle.tableau.specs.Weights.{sum, up, serves, costs, lack, room, Weighing, Refuted, RefutedWith}
+use Rattle.tableau.specs.Weights.{up, serves, costs, lack, room, Weighing, Refuted, RefutedWith}
 use Rattle.counting.specs.Question.{OnlyAsked}
 use Rattle.weights.specs.Weighed.{over}
-use Rattle.weights.proofs.Sums.{sum-same, sum-cut}
 
 gain-both : (a b : Bool) (w : ℕ) → gain a w * bit b ≡ gain (a && b) w
 gain-both true true w = mul-one w

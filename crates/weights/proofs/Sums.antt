@@ -4,44 +4,26 @@ use mathlib.Core.Logic.{by-cases, ⊎-elim}
 use mathlib.Core.Bool.{Bool, true, false, not, true≢false}
 use mathlib.Core.List.{List}
 use Prim.Native.Nat.{ℕ, zero, suc, _+_, _*_, _^_, _<_, _≤_}
-use native.Mathlib.Nat.{eq-or-lt-of-le, le-of-suc-le-suc, not-suc-le-zero, le-refl, zero-add, mul-le-mul, mul-suc}
+use native.Mathlib.Nat.{eq-or-lt-of-le, le-of-suc-le-suc, not-suc-le-zero, zero-add, mul-le-mul, mul-suc}
 use native.Mathlib.Decide.{decLt}
 use native.Mathlib.Omega.{arith}
 use lib.Dec.{eqb}
 use borrow.Author.Tests.{eq-eqb, ne-eqb}
-use Rattle.semantics.specs.Count.{gain}
+use Rattle.semantics.specs.Count.{gain, sum}
+use Rattle.semantics.proofs.Sum.{sum-same, sum-none}
 use Rattle.sets.specs.declared.Set.{Set}
 use Rattle.sets.specs.Set.{member, nothing, removed}
 use Rattle.sets.proofs.Words.{bit-high}
 use Rattle.wide.specs.Wide.{wideAt}
-use Rattle.tableau.specs.Weights.{sum}
 use Rattle.sets.proofs.Tests.{both-parts}
 use Rattle.counting.proofs.Measures.{bound-few}
 use Rattle.counting.proofs.Slots.{gain-le}
 use Rattle.weights.specs.Weighed.{weightAt, over, leftWeight}
 
-pub sum-same : {f g : ℕ → ℕ} (n : ℕ) → ((i : ℕ) → i < n → f i ≡ g i) → sum f n ≡ sum g n
-unfolding sum
-sum-same zero h = refl
-sum-same (suc n) h = omega (arith, h n (le-refl (suc n)), sum-same n (λ i l. h i (omega arith)))
-
 sum-le : {f : ℕ → ℕ} (m n : ℕ) → ((i : ℕ) → f i ≤ m) → sum f n ≤ m * n
 unfolding sum
 sum-le m zero h = omega arith
 sum-le m (suc n) h = omega (arith, h n, sum-le m n h, mul-suc m n)
-
-sum-none : (n : ℕ) → sum (λ i. 0) n ≡ 0
-unfolding sum
-sum-none zero = refl
-sum-none (suc n) = omega (arith, sum-none n)
-
--- what comes to nothing from n on can be left out
-pub sum-cut : {f : ℕ → ℕ} {n : ℕ} (m : ℕ) → ((i : ℕ) → n ≤ i → f i ≡ 0) → n ≤ m → sum f n ≡ sum f m
-unfolding sum
-sum-cut {n = n} zero h l = let e : n ≡ 0 = omega arith in rw e
-sum-cut {f} {n} (suc m) h l =
-    ⊎-elim (λ (e : n ≡ suc m). rw e) (λ (less : n < suc m). omega (arith, h m (le-of-suc-le-suc less), sum-cut m h (le-of-suc-le-suc less)))
-    (eq-or-lt-of-le l)
 
 -- ---- member by member
 
@@ -72,7 +54,7 @@ adding-start f set l = record {
 module _ {f : ℕ → ℕ} {all : ℕ → Bool} {s : ℕ} {rest : ℕ → Bool} (adding : Adding f all s rest) where
   pub adding-end : rest ≡ nothing → s ≡ over all f
   adding-end e =
-      let none : over rest f ≡ 0 = rw e (sum-none 64) in
+      let none : over rest f ≡ 0 = rw e (sum-none 64 (λ i l. refl)) in
       omega (arith, none, adding .whole)
 
   module _ {k : ℕ} (here : rest k ≡ true) where

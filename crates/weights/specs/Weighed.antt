@@ -3,11 +3,11 @@ use mathlib.Core.Bool.{Bool}
 use mathlib.Core.List.{List}
 use Prim.Native.Nat.{ℕ, _+_, _*_, _/_, _%_, _≤_}
 use lib.ListN.{getD}
-use Rattle.semantics.specs.Count.{gain}
+use Rattle.semantics.specs.Count.{gain, sum}
 use Rattle.sets.specs.Set.{both, butNot}
 use Rattle.sets.specs.Word.{bitAt}
 use Rattle.wide.specs.Wide.{wideAt}
-use Rattle.tableau.specs.Weights.{sum, up}
+use Rattle.tableau.specs.Weights.{up}
 use Rattle.counting.specs.Stack.{slotsOf}
 use Rattle.counting.specs.Bounds.{leftOf}
 

@@ -9,6 +9,6 @@ fill-large-spec =
     tie.close
     (tie.spec
     (λ c. search needs)
-    (λ c κs. let s = c .before .before .before .before .before .before .before in (s .pre .0, zeros-at 4160, s .pre .1))
+    (λ c κs. let s = c .before .before .before .before .before .before .before in (s .pre, s .pre .laid .room, zeros-at 4160))
     (λ c. search needs)
     (λ c. search needs))

@@ -9,6 +9,6 @@ fill-medium-spec =
     tie.close
     (tie.spec
     (λ c. search needs)
-    (λ c κs. let s = c .before .before .before .before .before .before .before in (s .pre .0, zeros-at 512, s .pre .1))
+    (λ c κs. let s = c .before .before .before .before .before .before .before in (s .pre .0, s .pre .1, zeros-at 512))
     (λ c. search needs)
     (λ c. search needs))

@@ -9,6 +9,6 @@ fill-small-spec =
     tie.close
     (tie.spec
     (λ c. search needs)
-    (λ c κs. let s = c .before .before .before .before .before .before .before in (s .pre .0, zeros-at 64, s .pre .1))
+    (λ c κs. let s = c .before .before .before .before .before .before .before in (s .pre .0, s .pre .1, zeros-at 64))
     (λ c. search needs)
     (λ c. search needs))

@@ -1,5 +1,6 @@
 -- `next_word` meets its contract: an entry of an accepted table refers to entries before it, whose words are there.
 use mathlib.Core.Path.{sym, ap, _∙_}
+use Prim.Native.Nat.{_<_}
 use native.Mathlib.Omega.{arith}
 use borrow.Author.Needs.{needs}
 use Rattle.semantics.specs.Formula.{Formula}
@@ -16,7 +17,12 @@ use Rattle.truth_table.proofs.next_word.Tie as tie
 entry-word-requires : tie.Need-entry-word-requires
 entry-word-requires c κs =
     let start = c .before .before .before .before .before .before .before .before .before .before in
-    rw (c .before .before .before .before .before .entry-at .ensures, c .short-at .ensures .0) (start .pre .3, start .pre .2, omega arith)
+    let at : c .short-at .result < 65536 = c .short-at .ensures .1 in
+    let sized = start .pre .2 in (
+      record { some = sized .some; few = sized .few; four = sized .four; narrow = sized .narrow; near = at },
+      rw (c .before .before .before .before .before .entry-at .ensures, c .short-at .ensures .0) (start .pre .3),
+      rw (c .before .before .before .before .before .entry-at .ensures) (omega arith),
+    )
 
 returns : tie.Need-returns
 returns c s all few served before =

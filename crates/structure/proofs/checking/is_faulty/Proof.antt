@@ -36,7 +36,7 @@ returns-3 : tie.Need-returns-3
 returns-3 c = rw (placed (c .before .before), c .before .match .keys2, or-zero) refl
 
 returns-4 : tie.Need-returns-4
-returns-4 c = rw (placed (c .before .before), c .before .match .keys3) refl
+returns-4 c = rw (placed (c .before), c .match .keys3) refl
 
 returns-5 : tie.Need-returns-5
 returns-5 c = simp (placed (c .before), le-leb 3 (c .before .before .args .r .kind) (omega (arith, c .match .rest)))

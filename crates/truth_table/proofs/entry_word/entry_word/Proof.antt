@@ -2,6 +2,7 @@
 use mathlib.Core.Path.{_≡_, refl, sym, ap₂, _∙_}
 use mathlib.Core.Bool.{false}
 use Prim.Native.Nat.{ℕ, _-_, _^_}
+use native.Mathlib.Nat.{le-refl, mul-le-mul}
 use native.Mathlib.Omega.{arith}
 use lib.Bits.{bitAnd, bitOr}
 use lib.ListN.{getD}
@@ -43,6 +44,11 @@ module _ (s : Structure) (ref : ℕ → Formula) (e : Entry) where
       (λ h0 h1 h2 h3 h4 h5 h6 h7. absurd (h7 refl))
       (λ k h0 h1 h2 h3 h4 h5 h6 h7. sym (word-none (s .worlds) (λ w l. refl)))
 
+mul-word-at : tie.Need-mul-word-at
+mul-word-at c =
+    let s = c .before .before .before in
+    record { fits = omega (arith, s .pre .0 .near, mul-le-mul (s .pre .0 .few) (le-refl (s .args .at))) }
+
 returns : tie.Need-returns
 returns c s ref all few served p q = all ∙ by-row s ref _ 0 (c .match .keys1)
 
@@ -50,7 +56,9 @@ returns-2 : tie.Need-returns-2
 returns-2 c s ref all few served p q = sym (word-none _ (λ w l. refl)) ∙ by-row s ref _ 1 (c .match .keys2)
 
 returns-3 : tie.Need-returns-3
-returns-3 c s ref all few served p q = c .word-at .ensures ∙ served .fact (c .before .match .keys3) ∙ by-row s ref _ 2 (c .before .match .keys3)
+returns-3 c s ref all few served p q =
+    let kind = c .before .before .match .keys3 in
+    c .word-at .ensures ∙ served .fact kind ∙ by-row s ref _ 2 kind
 
 returns-4 : tie.Need-returns-4
 unfolding usesOf
@@ -94,10 +102,11 @@ pub entry-word-spec : {M : Type 1} → statement M
 entry-word-spec =
     tie.close
     (tie.spec
+    mul-word-at
     (λ c κs. search needs)
-    (λ c κs. let s = c .before .before in (s .pre .0 (omega arith), s .pre .1))
+    (λ c κs. let s = c .before .before in (s .pre .0, s .pre .1 (omega arith)))
     (λ c. search needs)
-    (λ c κs. let s = c .before .before .before in (s .pre .0 (omega arith), s .pre .1))
+    (λ c κs. let s = c .before .before .before in (s .pre .0, s .pre .1 (omega arith)))
     returns
     returns-2
     returns-3

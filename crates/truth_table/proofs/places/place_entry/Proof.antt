@@ -28,13 +28,13 @@ returns c =
     let e = c .before .before .entry-at in (
       search needs,
       omega arith,
-      laid-skip _ _ _ _ _ _ (s .pre .6) (none-asked _ (rw (e .ensures) at (c .before .if1 .taken)) (ltb-true _ 6 (rw (e .ensures) at (c .if2 .taken)))),
+      λ from laid. laid-skip _ _ _ _ _ _ _ laid (none-asked _ (rw (e .ensures) at (c .before .if1 .taken)) (ltb-true _ 6 (rw (e .ensures) at (c .if2 .taken)))),
     )
 
 place-requires : tie.Need-place-requires
 place-requires c κs =
     let s = c .before .before .before .before .before .before in
-    (rw (c .before .before .entry-at .ensures) (named _ _), s .pre .2, s .pre .3, s .pre .4, omega arith, s .pre .6 .layout)
+    (rw (c .before .before .entry-at .ensures) (named _ _), s .pre .2, s .pre .3, s .pre .4, s .pre .5, s .pre .6)
 
 slice-write-rows : tie.Need-slice-write-rows
 slice-write-rows c = omega (arith, c .before .before .before .before .before .before .before .before .before .before .before .before .pre .1)
@@ -47,7 +47,7 @@ returns-2 c =
       omega (arith, placed .0),
       omega (arith, placed .1),
       rw (c .short-at .ensures .0, c .before .key .ensures .0, e .ensures)
-          (laid-more (entryAt (s .args .table .now)) (s .args .i) _ _ _ _ (s .pre .6) (rw (e .ensures) at (placed .2)) (one-asked (entryAt (s .args .table .now) (s .args .i))) (named (s .args .table .now)) (slice-write-rows c)),
+          (λ from laid. laid-more (entryAt (s .args .table .now)) from (s .args .i) _ _ _ _ laid (rw (e .ensures) at (placed .2)) (one-asked (entryAt (s .args .table .now) (s .args .i))) (named (s .args .table .now)) (slice-write-rows c)),
     )
 
 pub place-entry-spec : {M : Type 1} → statement M
