@@ -1,5 +1,6 @@
-/* Tests of the header: what the entry macros write, the constant of each refusal beside a call that gives it, and that a
- * refused call leaves the place of its answer, and a draft, as it was. It prints nothing; its status is 1 after a fault. */
+/* Tests of the header: what the entry macros write, the constant of each refusal beside a call that gives it, a board of links
+ * with copies, and that a refused call leaves the place of its answer, and a draft, as it was. It prints nothing; its status is 1
+ * after a fault. */
 
 #include "hurnavis.h"
 
@@ -89,6 +90,32 @@ static void refusals_of_structures(void)
     structure[3] = 0x81;
     EXPECT(hurnavis_board(table, sizeof table, structure, sizeof structure, words, 3) == 0);
     EXPECT(words[0] == 3 && words[1] == 2 && words[2] == 7);
+}
+
+/* Three worlds. From world 0 a link of relation 7 leads to world 1, stated with 2, 4 and 1 copies, and one of 3 copies to world
+ * 2, where fact 1 holds: 4 + 3 copies in all, 3 to the fact. */
+static void copies(void)
+{
+    static const uint8_t table[] = {
+        HURNAVIS_TRUTH, HURNAVIS_FACT(1), HURNAVIS_AT_LEAST(7, 7, 0), HURNAVIS_AT_LEAST(8, 7, 0),
+        HURNAVIS_AT_MOST(6, 7, 0), HURNAVIS_AT_LEAST(3, 7, 1), HURNAVIS_AT_MOST(2, 7, 1)
+    };
+    uint8_t structure[] = {2, 0, 0, 0x42, 1, 0, 0x80, 7, 5, 0x80, 7, 7, 0x80, 7, 4, 0x80, 7, 10};
+    static const uint64_t before[] = {9, 9, 9, 9, 9, 9, 9, 9}, after[] = {7, 4, 1, 0, 6, 1, 6, 9};
+    uint64_t words[] = {9, 9, 9, 9, 9, 9, 9, 9};
+
+    structure[5] = 1; /* a zero bit of the fact */
+    EXPECT(hurnavis_board(table, sizeof table, structure, sizeof structure, words, 8) == HURNAVIS_RECORD);
+    structure[5] = 0;
+    structure[2] = 2; /* one of the header */
+    EXPECT(hurnavis_board(table, sizeof table, structure, sizeof structure, words, 8) == HURNAVIS_RECORD);
+    structure[2] = 0;
+    structure[17] = 15; /* four copies to a world that is not there */
+    EXPECT(hurnavis_board(table, sizeof table, structure, sizeof structure, words, 8) == HURNAVIS_WORLD);
+    structure[17] = 10;
+    SAME(words, before);
+    EXPECT(hurnavis_board(table, sizeof table, structure, sizeof structure, words, 8) == 0);
+    SAME(words, after);
 }
 
 /* The bytes beside the place of the answer are nobody's to write either. */
@@ -223,6 +250,7 @@ int main(void)
     refusals_of_tables();
     deepest();
     refusals_of_structures();
+    copies();
     places_of_answers();
     texts();
     words_of_entries();

@@ -89,8 +89,10 @@ uint32_t hurnavis_work_words(const uint8_t *table, size_t table_len, size_t mode
 
 /* Writes one word for each entry: bit w is 1 exactly when the entry holds at world w of the structure. Words behind the number
  * of entries are as before. A structure is 1 to 1,024 records of 3 bytes, most significant bit first. The first is the header:
- * 2 bits 0, 6 bits the number of worlds less 1, 16 bits 0. A fact: 2 bits 1, world 6, name 8, 8 bits 0. A link: 2 bits 2, from
- * 6, relation 8, to 6, 2 bits 0. Refuses 1 to 8, and 10 for fewer words than entries. */
+ * 2 bits 0, 6 bits the number of worlds less 1, 16 zero bits. A fact: 2 bits 1, world 6, name 8, 8 zero bits. A link: 2 bits 2,
+ * from 6, relation 8, to 6, 2 bits the number of its copies less 1. "At least" and "at most" count a link as often as it has
+ * copies, 1 to 4; of a link that is stated again the greatest number counts. Refuses 1 to 8, and 10 for fewer words than
+ * entries. */
 uint32_t hurnavis_board(const uint8_t *table, size_t table_len, const uint8_t *structure, size_t structure_len,
                         uint64_t *words, size_t words_len);
 

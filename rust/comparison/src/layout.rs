@@ -24,6 +24,8 @@ pub const AT_MOST: u8 = 7;
 pub const MOST_ENTRIES: usize = 64;
 /// The most records that a structure holds.
 pub const MOST_RECORDS: usize = 1024;
+/// The most copies that a link has (document 02's P7).
+pub const MOST_COPIES: u8 = 4;
 
 impl Entry {
     /// The entry of 4 bytes: kind 4 bits, name 8, first 6, second 6, grade 8, most significant bit first.
@@ -108,6 +110,8 @@ pub enum Record {
         from: u8,
         relation: u8,
         to: u8,
+        /// 1 to 4.
+        copies: u8,
     },
 }
 
@@ -119,17 +123,51 @@ impl Record {
             Record::Fact { world, name } => {
                 1 << 22 | (world as u32 & 63) << 16 | (name as u32) << 8
             }
-            Record::Link { from, relation, to } => {
-                2 << 22 | (from as u32 & 63) << 16 | (relation as u32) << 8 | (to as u32 & 63) << 2
+            Record::Link {
+                from,
+                relation,
+                to,
+                copies,
+            } => {
+                let less_1 = copies.wrapping_sub(1) as u32 & 3;
+                2 << 22
+                    | (from as u32 & 63) << 16
+                    | (relation as u32) << 8
+                    | (to as u32 & 63) << 2
+                    | less_1
             }
         };
         let [_, a, b, c] = word.to_be_bytes();
         [a, b, c]
     }
+
+    /// The record of 3 bytes, if there is such a kind. Zero bits are not looked at.
+    pub fn unpack([a, b, c]: [u8; 3]) -> Option<Record> {
+        let world = a & 63;
+        match a >> 6 {
+            0 => Some(Record::Header(world)),
+            1 => Some(Record::Fact { world, name: b }),
+            2 => Some(Record::Link {
+                from: world,
+                relation: b,
+                to: c >> 2,
+                copies: (c & 3) + 1,
+            }),
+            _ => None,
+        }
+    }
 }
 
 pub fn pack_structure(records: &[Record]) -> Vec<u8> {
     records.iter().flat_map(|r| r.pack()).collect()
+}
+
+/// The records of a structure without faults.
+pub fn unpack_structure(structure: &[u8]) -> Vec<Record> {
+    structure
+        .chunks_exact(3)
+        .filter_map(|b| Record::unpack([b[0], b[1], b[2]]))
+        .collect()
 }
 
 #[cfg(test)]
@@ -153,12 +191,29 @@ mod tests {
     fn records_pack_as_document_01_shows() {
         assert_eq!(Record::Header(2).pack(), [0x02, 0, 0]);
         assert_eq!(Record::Fact { world: 1, name: 1 }.pack(), [0x41, 1, 0]);
-        let link = Record::Link {
+        let link = |copies| Record::Link {
             from: 0,
             relation: 7,
             to: 1,
+            copies,
         };
-        assert_eq!(link.pack(), [0x80, 7, 4]);
+        assert_eq!(link(1).pack(), [0x80, 7, 4]);
+        assert_eq!(link(4).pack(), [0x80, 7, 7]);
+    }
+
+    #[test]
+    fn records_are_read_as_they_are_written() {
+        let links = (1..=MOST_COPIES).map(|copies| Record::Link {
+            from: 63,
+            relation: 255,
+            to: 62,
+            copies,
+        });
+        let (world, name) = (61, 254);
+        let facts = [Record::Header(60), Record::Fact { world, name }];
+        let records: Vec<Record> = facts.into_iter().chain(links).collect();
+        assert_eq!(unpack_structure(&pack_structure(&records)), records);
+        assert_eq!(Record::unpack([0xc0, 0, 0]), None);
     }
 
     #[test]

@@ -1,4 +1,4 @@
-//! Times and ratios as a reader wants them: two or three digits and a unit.
+//! Times and ratios as a reader wants them, two or three digits and a unit; and bytes.
 
 use std::time::Duration;
 
@@ -24,6 +24,11 @@ pub fn ratio(one: Duration, other: Duration) -> String {
         return "< 0.01".into();
     }
     digits(ratio)
+}
+
+/// Bytes in hexadecimal, as the documents write them, without spaces.
+pub fn hex(bytes: &[u8]) -> String {
+    bytes.iter().map(|b| format!("{b:02x}")).collect()
 }
 
 fn digits(value: f64) -> String {

@@ -259,18 +259,16 @@ fn the_writers_write_the_format() {
     let mut s = StructureWriter::new(64);
     s.fact(63, 200);
     s.link(62, 201, 61);
-    let (fact, link) = ((63, 200), (62, 201, 61));
-    let records = [
-        Record::Header(63),
-        Record::Fact {
-            world: fact.0,
-            name: fact.1,
-        },
-        Record::Link {
-            from: link.0,
-            relation: link.1,
-            to: link.2,
-        },
-    ];
+    (1..=4).for_each(|copies| s.link_copies(60, 202, 59, copies));
+    let link = |(from, relation, to), copies| Record::Link {
+        from,
+        relation,
+        to,
+        copies,
+    };
+    let (world, name) = (63, 200);
+    let mut records = vec![Record::Header(63), Record::Fact { world, name }];
+    records.push(link((62, 201, 61), 1));
+    records.extend((1..=4).map(|copies| link((60, 202, 59), copies)));
     assert_eq!(s.bytes(), layout::pack_structure(&records));
 }

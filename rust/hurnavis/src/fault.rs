@@ -32,7 +32,8 @@ pub enum Fault {
     Reference = 4,
     /// 6: a structure of length 0, over 3,072 bytes, or not a multiple of 3.
     StructureLength = 6,
-    /// 7: a first record that is no header, a later one that is, a kind 3, or a zero bit that is 1.
+    /// 7: a first record that is no header, a later one that is, a kind 3, or a zero bit of the header or of a fact that is 1.
+    /// The last two bits of a link are no zero bits: they are its copies less 1.
     Record = 7,
     /// 8: a world that is not below the number of worlds.
     World = 8,

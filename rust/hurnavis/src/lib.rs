@@ -90,7 +90,8 @@ pub fn work_words(table: &[u8], model: usize, answer: usize) -> Result<usize, Fa
 }
 
 /// Writes for each entry the worlds of the structure where it holds: bit w of word e is entry e at world w. One word is lent
-/// for each entry; words behind them keep their values.
+/// for each entry; words behind them keep their values. A link counts as often as it has copies, 1 to 4
+/// ([`StructureWriter::link_copies`]).
 ///
 /// ```
 /// use hurnavis::{board, StructureWriter, Writer};

@@ -1,7 +1,7 @@
 //! Small structures for looking for worlds by trying: all of them where they are few, drawn ones otherwise.
 
 use super::truth::{self, Structure};
-use crate::layout::{self, Entry};
+use crate::layout::{self, Entry, MOST_COPIES};
 use crate::xorshift::Xorshift;
 use std::collections::BTreeSet;
 
@@ -12,8 +12,8 @@ pub struct Seen {
 }
 
 impl Seen {
-    /// Looks at all structures of up to `worlds` worlds that have at most 2 to the power `bits` variants, and at
-    /// `draws` drawn ones.
+    /// Looks at all structures of up to `worlds` worlds and with one copy of each link, where they have at most 2 to the power
+    /// `bits` variants, and at `draws` drawn ones, of which some have more copies.
     pub fn look(
         entries: &[Entry],
         worlds: usize,
@@ -26,10 +26,10 @@ impl Seen {
         for worlds in (1..=worlds).filter(|w| signs.bits(*w) <= bits) {
             for variant in 0..1u64 << signs.bits(worlds) {
                 let mut rest = variant;
-                let structure = signs.structure(worlds, || {
-                    let bit = rest & 1 == 1;
+                let structure = signs.structure(worlds, |_| {
+                    let bit = rest & 1;
                     rest >>= 1;
-                    bit
+                    bit as u32
                 });
                 seen.boards.push(truth::board(entries, &structure));
             }
@@ -37,7 +37,11 @@ impl Seen {
         for _ in 0..draws {
             let worlds = random.between(1, worlds);
             let share = random.pick(&[25, 50, 75]);
-            let structure = signs.structure(worlds, || random.percent(share));
+            let copies = random.pick(&[1, 2, MOST_COPIES]) as usize;
+            let structure = signs.structure(worlds, |most| match random.percent(share) {
+                true => random.between(1, copies.min(most)) as u32,
+                false => 0,
+            });
             seen.boards.push(truth::board(entries, &structure));
         }
         seen
@@ -75,23 +79,25 @@ impl Signs {
         }
     }
 
-    /// How many yes-or-no choices a structure of this many worlds has.
+    /// How many yes-or-no choices a structure of this many worlds has, where each link has one copy.
     fn bits(&self, worlds: usize) -> usize {
         worlds * self.facts.len() + worlds * worlds * self.relations.len()
     }
 
-    fn structure(&self, worlds: usize, mut choose: impl FnMut() -> bool) -> Structure {
+    /// The structure that is chosen: each choice is 0 for nothing, or up to so many for the copies.
+    fn structure(&self, worlds: usize, mut choose: impl FnMut(usize) -> u32) -> Structure {
         let mut structure = Structure::new(worlds);
         for world in 0..worlds {
             for name in &self.facts {
-                if choose() {
+                if choose(1) > 0 {
                     structure.state(world, *name);
                 }
             }
             for relation in &self.relations {
                 for to in 0..worlds {
-                    if choose() {
-                        structure.link(world, *relation, to);
+                    let copies = choose(MOST_COPIES.into());
+                    if copies > 0 {
+                        structure.link(world, *relation, to, copies);
                     }
                 }
             }

@@ -1,7 +1,7 @@
 //! The same calls once more, written from documents 01, 02 and 001 alone, by another method, to compare the library with.
 //!
 //! - [`refusals`]: document 01's refusals in their order.
-//! - [`truth`]: definition 2.1 on drawn structures.
+//! - [`truth`]: definition 2.1 on drawn structures, with the copies of their links.
 //! - [`realisable`] and [`counts`]: which truth values entries can have together at one world. This is no tableau: no
 //!   formula is taken apart in search of a world. The sets of all possible truth values are computed, the deeper
 //!   entries' first, and a relation's counts are found by adding up successors.

@@ -6,6 +6,9 @@
 //! all combinations of free facts and possible counts, where the counts come from the realisable truth values of the
 //! counted parts, which are less deep.
 //!
+//! A link of c copies counts like links to c like worlds, which can stand side by side. So links of one copy realise all that
+//! there is, and document 02's P7 changes nothing here.
+//!
 //! The combinations are swept in the order of evaluation. An entry that no later one looks at is forgotten on the way,
 //! which keeps the sets small.
 

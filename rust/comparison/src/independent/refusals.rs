@@ -1,4 +1,5 @@
-//! Document 01's refusals 1 to 8, in its order, without 5, which document 02 takes out (P4).
+//! Document 01's refusals 1 to 8, in its order, without 5, which document 02 takes out (P4). A link has no zero bits any more:
+//! its last two bits are copies less 1 (P7).
 
 use super::truth::Structure;
 use crate::layout::{self, Entry};
@@ -96,11 +97,11 @@ fn read(record: u32, structure: &mut Structure) -> Result<(), Fault> {
             }
             structure.state(world, name);
         }
-        2 if record & 3 == 0 => {
+        2 => {
             if world >= structure.worlds() || to >= structure.worlds() {
                 return Err(Fault::World);
             }
-            structure.link(world, name, to);
+            structure.link(world, name, to, (record & 3) + 1);
         }
         _ => return Err(Fault::Record),
     }
@@ -139,5 +140,14 @@ mod tests {
         assert_eq!(refused(&[0, 0, 0, 0x41, 0, 0]), Err(Fault::World));
         assert_eq!(refused(&[0, 0, 0, 0x80, 0, 4]), Err(Fault::World));
         assert_eq!(refused(&[0x3f, 0, 0]), Ok(64));
+    }
+
+    #[test]
+    fn every_number_of_copies_is_taken() {
+        for less_1 in 0..4 {
+            let to = |world: u8| structure(&[0, 0, 0, 0x80, 0, world << 2 | less_1]);
+            assert_eq!(to(0).map(|s| s.worlds()), Ok(1));
+            assert_eq!(to(1).map(|s| s.worlds()), Err(Fault::World));
+        }
     }
 }

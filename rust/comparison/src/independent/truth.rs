@@ -1,7 +1,7 @@
-//! Truth at the worlds of a structure: definition 2.1 with document 01's way of counting.
+//! Truth at the worlds of a structure: definition 2.1 with document 01's way of counting, in copies since document 02's P7.
 
 use crate::layout::{self, Entry};
-use std::collections::HashMap;
+use std::collections::{BTreeMap, HashMap};
 
 /// A structure of 1 to 64 worlds. Sets of worlds are words, bit w for world w.
 #[derive(Clone, Debug)]
@@ -9,8 +9,8 @@ pub struct Structure {
     worlds: usize,
     /// The worlds where a fact holds, by name.
     facts: HashMap<u8, u64>,
-    /// The worlds that each world leads to, by relation.
-    links: HashMap<u8, Vec<u64>>,
+    /// For each relation its links, from one world to another, with the number of their copies.
+    links: HashMap<u8, BTreeMap<(usize, usize), u32>>,
 }
 
 impl Structure {
@@ -32,31 +32,30 @@ impl Structure {
         *self.facts.entry(name).or_insert(0) |= 1 << world;
     }
 
-    /// Links two worlds. The links are a set, so linking them again adds nothing.
-    pub fn link(&mut self, from: usize, relation: u8, to: usize) {
-        let worlds = self.worlds;
-        self.links
-            .entry(relation)
-            .or_insert_with(|| vec![0; worlds])[from] |= 1 << to;
+    /// Links two worlds by 1 to 4 copies. If they are linked already, the greater of the two numbers counts.
+    pub fn link(&mut self, from: usize, relation: u8, to: usize, copies: u32) {
+        assert!((1..=layout::MOST_COPIES.into()).contains(&copies));
+        let links = self.links.entry(relation).or_default();
+        let counts = links.entry((from, to)).or_default();
+        *counts = copies.max(*counts);
     }
 
     fn all(&self) -> u64 {
         u64::MAX >> (64 - self.worlds)
     }
 
-    /// The worlds from which between low and high links of the relation lead into the part.
+    /// The worlds from which between low and high copies of the relation's links lead into the part.
     fn counted(&self, relation: u8, part: u64, low: u32, high: u32) -> u64 {
-        let Some(links) = self.links.get(&relation) else {
-            return if low == 0 { self.all() } else { 0 };
-        };
-        let mut holds = 0;
-        for (world, to) in links.iter().enumerate() {
-            let count = (to & part).count_ones();
-            if low <= count && count <= high {
-                holds |= 1 << world;
+        let mut counts = [0; 64];
+        for ((from, to), copies) in self.links.get(&relation).into_iter().flatten() {
+            if part >> to & 1 == 1 {
+                counts[*from] += copies;
             }
         }
-        holds
+        let passes = |world: &usize| (low..=high).contains(&counts[*world]);
+        (0..self.worlds)
+            .filter(passes)
+            .fold(0, |holds, world| holds | 1 << world)
     }
 }
 

@@ -1,7 +1,10 @@
-//! What the programs share that try random inputs: their flags and their loop, and what came of the calls.
+//! What the programs share that try random inputs: their flags and their loop, what is lent, how bytes are damaged, and what came
+//! of the calls.
 //!
 //! Each input depends on the seed and its number alone, so that a disagreement can be run again by itself.
 
+pub mod damage;
+pub mod lent;
 pub mod outcome;
 pub mod outcomes;
 mod watch;

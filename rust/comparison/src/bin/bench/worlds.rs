@@ -6,13 +6,25 @@ use crate::numbers::Literals;
 use crate::tables::{decide, facts, R};
 use hurnavis::Writer;
 use hurnavis_comparison::boards;
+use hurnavis_comparison::layout::MOST_COPIES;
 
-pub const BOARDS: &[Family] = &[growing(
-    "board of 63 counting entries and 64 worlds",
-    "records",
-    &[64, 256, 1024],
-    board,
-)];
+pub const BOARDS: &[Family] = &[
+    growing(
+        "board of 63 counting entries and 64 worlds",
+        "records",
+        RECORDS,
+        |records| board(records, 1),
+    ),
+    growing(
+        "board of 63 counting entries and 64 worlds, 4 copies of each link",
+        "records",
+        RECORDS,
+        |records| board(records, MOST_COPIES),
+    ),
+];
+
+/// A tenth of them facts.
+const RECORDS: &[usize] = &[64, 256, 1024];
 
 pub const CHOICES: &[Family] = &[
     growing(
@@ -60,8 +72,8 @@ pub const CHOICES: &[Family] = &[
 ];
 
 /// Five relations.
-fn board(records: usize) -> Case {
-    let board = boards::counting(records, 5);
+fn board(records: usize, copies: u8) -> Case {
+    let board = boards::counting(records, 5).with_copies(copies);
     Case {
         table: board.table,
         question: Question::Board(board.structure),

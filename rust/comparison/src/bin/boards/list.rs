@@ -1,7 +1,7 @@
 //! The boards that are compared and measured.
 
 use hurnavis::Writer;
-use hurnavis_comparison::boards::{counting, Board};
+use hurnavis_comparison::boards::{counting, sized, Board};
 use hurnavis_comparison::layout::{self, Record};
 
 /// Document 01's example build.
@@ -31,6 +31,36 @@ pub fn all() -> Vec<(&'static str, Board)> {
     ]
 }
 
+/// The boards that are measured with more copies too: small ones, medium and full.
+pub fn copied() -> Vec<(&'static str, Board)> {
+    let full = counting(1024, 5);
+    let ringed = Board {
+        structure: ring(),
+        ..full.clone()
+    };
+    vec![
+        ("two entries, one world, one link", two(linked())),
+        ("document 01's example build, five entries", example()),
+        (
+            "12 counting entries, three relations, 8 worlds, 40 records",
+            sized(12, 8, 40, 3),
+        ),
+        (
+            "63 counting entries, 64 worlds, 64 records",
+            counting(64, 5),
+        ),
+        (
+            "63 counting entries, 64 worlds, 256 records",
+            counting(256, 5),
+        ),
+        ("63 counting entries, 64 worlds, 1,024 records", full),
+        ("the same, the worlds in a ring", ringed),
+        ("the same with one relation", counting(1024, 1)),
+        // The most that a table can ask for are 63 of them.
+        ("the same with 64 relations", counting(1024, 64)),
+    ]
+}
+
 /// The worlds where fact 0 holds in the ring.
 const FACT: u64 = 0x1e37_79b9_7f4a_7c35;
 
@@ -47,6 +77,7 @@ fn ring() -> Vec<u8> {
             from,
             relation,
             to: (from + step) % 64,
+            copies: 1,
         }));
     }
     layout::pack_structure(&records)
@@ -95,6 +126,7 @@ fn link(relation: u8, to: u8) -> Record {
         from: 0,
         relation,
         to,
+        copies: 1,
     }
 }
 

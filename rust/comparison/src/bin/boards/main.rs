@@ -1,11 +1,12 @@
 //! Boards: the library beside the way that it took before change request P3, and beside a plain
-//! evaluator.
+//! evaluator; and the library on links with copies, beside itself on the same links without.
 //!
-//! `boards` compares the words of the three on each board, then measures them in turns. It prints a
-//! Markdown table of the times, and the stack that the library's call needs. The exit status is 1
-//! if some word differs; a time is never a reason.
+//! `boards` compares the words of the three on each board, then measures them in turns. It does the
+//! same with the library on one, two and four copies of every link, where the words are those of the
+//! independent side. It prints Markdown tables of the times, and the stack that the library's call
+//! needs. The exit status is 1 if some word differs; a time is never a reason.
 
-mod before;
+mod copies;
 mod list;
 mod plain;
 mod side;
@@ -16,6 +17,7 @@ use hurnavis_comparison::boards::Board;
 use side::Side;
 use std::env;
 use std::process::ExitCode;
+use turns::Run;
 
 /// The head of the table, and the line under it.
 const HEAD: &str = "\
@@ -23,7 +25,8 @@ const HEAD: &str = "\
 |---|---|---|---|---|---|";
 const FOOT: &str = "
 before: the library's way until P3, ported to Rust; plain: each record read once. Neither checks
-its input; the library does.";
+its input, nor counts copies; the library does.
+";
 
 fn main() -> ExitCode {
     let words: Vec<String> = env::args().skip(1).collect();
@@ -38,8 +41,23 @@ fn main() -> ExitCode {
     }
 }
 
-/// Compares, then measures.
+/// Compares and measures, first without copies.
 fn all() -> ExitCode {
+    let measured = without_copies().and_then(|boards| Ok((boards, copies::all()?)));
+    let (boards, copied) = match measured {
+        Ok(measured) => measured,
+        Err(differences) => {
+            differences.iter().for_each(|line| println!("{line}"));
+            return ExitCode::FAILURE;
+        }
+    };
+    println!("{}", stack::report());
+    println!("boards: the same words on {boards} boards, and on {copied} with copies");
+    ExitCode::SUCCESS
+}
+
+/// The three sides on every board. Answers how many there are, or where words differ.
+fn without_copies() -> Result<usize, Vec<String>> {
     let boards = list::all();
     let mut sides = Side::all();
     let differences: Vec<String> = boards
@@ -47,17 +65,14 @@ fn all() -> ExitCode {
         .flat_map(|(name, board)| differences(name, board, &mut sides))
         .collect();
     if !differences.is_empty() {
-        differences.iter().for_each(|line| println!("{line}"));
-        return ExitCode::FAILURE;
+        return Err(differences);
     }
     println!("{HEAD}");
     for (name, board) in &boards {
         println!("{}", row(name, board, &mut sides));
     }
     println!("{FOOT}");
-    println!("{}", stack::report());
-    println!("boards: the same words on {} boards", boards.len());
-    ExitCode::SUCCESS
+    Ok(boards.len())
 }
 
 /// Where a side's words are not those of before.
@@ -81,7 +96,8 @@ fn differences(name: &str, board: &Board, sides: &mut [Side; 3]) -> Vec<String> 
 
 /// The times of the three sides on the board.
 fn row(name: &str, board: &Board, sides: &mut [Side; 3]) -> String {
-    let [library, before, plain] = turns::measure(board, sides);
+    let runs = sides.each_mut().map(|side| Run::new(side, board));
+    let [library, before, plain] = turns::measure(runs);
     format!(
         "| {name} | {} | {} | {} | {} | {} |",
         library.shown(),

@@ -1,8 +1,8 @@
 //! The ways to fill a board's words, each called through a pointer, so that none is built into the
 //! loop that measures it.
 
-use crate::before;
 use crate::plain::Plain;
+use hurnavis_comparison::before;
 use hurnavis_comparison::boards::Board;
 
 pub struct Side {
@@ -18,10 +18,14 @@ impl Side {
     pub fn all() -> [Side; 3] {
         let mut plain = Plain::new();
         [
-            Side::new("library", library),
+            Side::library(),
             Side::new("before", before::board),
             Side::new("plain", move |t, s, w| plain.board(t, s, w)),
         ]
+    }
+
+    pub fn library() -> Side {
+        Side::new("library", library)
     }
 
     fn new(name: &'static str, fill: impl FnMut(&[u8], &[u8], &mut [u64]) + 'static) -> Side {

@@ -4,6 +4,8 @@
 
 use crate::list;
 use crate::side::library;
+use hurnavis_comparison::boards::Board;
+use hurnavis_comparison::layout::MOST_COPIES;
 use std::env;
 use std::process::{Command, ExitCode, Stdio};
 use std::thread::Builder;
@@ -67,10 +69,10 @@ pub fn try_one(work: &str, bytes: &str) -> ExitCode {
     let builder = Builder::new().stack_size(bytes.parse().unwrap_or(0));
     let thread = match work {
         BOARDS => {
-            let boards = list::all();
-            let mut words: Vec<Vec<u64>> = boards.iter().map(|(_, board)| board.words()).collect();
+            let boards = boards();
+            let mut words: Vec<Vec<u64>> = boards.iter().map(Board::words).collect();
             builder.spawn(move || {
-                for ((_, board), words) in boards.iter().zip(&mut words) {
+                for (board, words) in boards.iter().zip(&mut words) {
                     library(&board.table, &board.structure, words);
                 }
             })
@@ -81,4 +83,12 @@ pub fn try_one(work: &str, bytes: &str) -> ExitCode {
         Ok(Ok(())) => ExitCode::SUCCESS,
         _ => ExitCode::FAILURE,
     }
+}
+
+/// Every board, those of the second table with as many copies as there can be.
+fn boards() -> Vec<Board> {
+    let copied = list::copied().into_iter();
+    let copied = copied.map(|(_, board)| board.with_copies(MOST_COPIES));
+    let without = list::all().into_iter().map(|(_, board)| board);
+    without.chain(copied).collect()
 }

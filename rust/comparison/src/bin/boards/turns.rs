@@ -1,4 +1,4 @@
-//! Times of all sides on one board, in turns: what disturbs the machine then disturbs all alike.
+//! Times of sides on boards, in turns: what disturbs the machine then disturbs all alike.
 
 use crate::side::Side;
 use hurnavis_comparison::boards::Board;
@@ -8,7 +8,7 @@ use std::time::{Duration, Instant};
 
 /// A batch of calls takes at least so long, so that reading the clock does not count.
 const BATCH: Duration = Duration::from_micros(20);
-/// For each side about so long in all.
+/// For each run about so long in all.
 const SPENT: Duration = Duration::from_millis(150);
 /// The batches that are tried before so many calls are thought to be enough.
 const TRIES: usize = 5;
@@ -36,20 +36,56 @@ impl Timed {
     }
 }
 
-/// The times of the sides on the board.
-pub fn measure<const N: usize>(board: &Board, sides: &mut [Side; N]) -> [Timed; N] {
-    let mut words = board.words();
-    let mut best = sides.each_mut().map(|side| Timed {
-        calls: enough(side, board, &mut words),
+/// A side, the board that it is called on, and the words that it fills.
+pub struct Run<'a> {
+    side: &'a mut Side,
+    board: &'a Board,
+    words: Vec<u64>,
+}
+
+impl Run<'_> {
+    pub fn new<'a>(side: &'a mut Side, board: &'a Board) -> Run<'a> {
+        Run {
+            words: board.words(),
+            side,
+            board,
+        }
+    }
+
+    /// As many calls as make even a quick batch long enough.
+    fn enough(&mut self) -> u32 {
+        let mut calls = 1;
+        while (0..TRIES).any(|_| self.batch(calls) < BATCH) {
+            calls *= 2;
+        }
+        calls
+    }
+
+    /// So many calls, after one that brings the side's memory back into reach.
+    fn batch(&mut self, calls: u32) -> Duration {
+        let (table, structure) = (&self.board.table[..], &self.board.structure[..]);
+        let (fill, words) = (&mut self.side.fill, &mut self.words[..]);
+        fill(table, structure, words);
+        let started = Instant::now();
+        for _ in 0..calls {
+            fill(black_box(table), black_box(structure), black_box(words));
+        }
+        started.elapsed()
+    }
+}
+
+/// The times of the runs.
+pub fn measure<const N: usize>(mut runs: [Run; N]) -> [Timed; N] {
+    let mut best = runs.each_mut().map(|run| Timed {
+        calls: run.enough(),
         time: Duration::MAX,
     });
     let started = Instant::now();
     let mut rounds = 0;
     while started.elapsed() < SPENT * N as u32 {
         further_down(rounds % PLACES, &mut || {
-            for (side, best) in sides.iter_mut().zip(&mut best) {
-                let time = batch(side, board, &mut words, best.calls);
-                best.time = best.time.min(time);
+            for (run, best) in runs.iter_mut().zip(&mut best) {
+                best.time = best.time.min(run.batch(best.calls));
             }
         });
         rounds += 1;
@@ -66,24 +102,4 @@ fn further_down(places: usize, work: &mut dyn FnMut()) {
     black_box(&passed_over);
     further_down(places - 1, work);
     black_box(&passed_over);
-}
-
-/// As many calls as make even a quick batch long enough.
-fn enough(side: &mut Side, board: &Board, words: &mut [u64]) -> u32 {
-    let mut calls = 1;
-    while (0..TRIES).any(|_| batch(side, board, words, calls) < BATCH) {
-        calls *= 2;
-    }
-    calls
-}
-
-/// So many calls, after one that brings the side's memory back into reach.
-fn batch(side: &mut Side, board: &Board, words: &mut [u64], calls: u32) -> Duration {
-    let (table, structure) = (&board.table[..], &board.structure[..]);
-    (side.fill)(table, structure, words);
-    let started = Instant::now();
-    for _ in 0..calls {
-        (side.fill)(black_box(table), black_box(structure), black_box(words));
-    }
-    started.elapsed()
 }

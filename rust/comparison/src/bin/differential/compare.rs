@@ -1,13 +1,13 @@
 //! Runs each call on an input and compares everything that documents 01 and 02 say about it.
 
 use crate::input::{needed, Input};
-use crate::lent::{garbage, no_answer, no_words, untouched, worked};
 use crate::tally::Tally;
 use hurnavis::{raw, Fault, Mark};
 use hurnavis_comparison::independent::drawn::Seen;
 use hurnavis_comparison::independent::realisable::Limits;
 use hurnavis_comparison::independent::{self, refusals};
 use hurnavis_comparison::layout::{self, Entry, AND, NOT};
+use hurnavis_comparison::trial::lent::{garbage, no_answer, no_words, untouched, worked};
 use hurnavis_comparison::trial::outcome::{done, outcome, same, Outcome};
 use hurnavis_comparison::xorshift::Xorshift;
 

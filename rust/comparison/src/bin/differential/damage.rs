@@ -2,6 +2,7 @@
 
 use crate::families;
 use crate::input::{self, Input};
+use hurnavis_comparison::trial::damage::{bytes, flip, record, resize};
 use hurnavis_comparison::xorshift::Xorshift;
 
 /// A good input with one to three faults, any of which may turn out to be none.
@@ -66,35 +67,6 @@ fn border(random: &mut Xorshift, needed: usize) -> usize {
     random.pick(&[less, less, needed, needed + 3, needed / 2, 0])
 }
 
-fn bytes(random: &mut Xorshift, most: usize) -> Vec<u8> {
-    let length = random.between(0, most);
-    (0..length).map(|_| random.word() as u8).collect()
-}
-
-fn flip(random: &mut Xorshift, bytes: &mut [u8]) {
-    if !bytes.is_empty() {
-        let at = random.below(bytes.len());
-        bytes[at] ^= 1 << random.below(8);
-    }
-}
-
-/// Cuts bytes off, adds some, or goes over the greatest length.
-fn resize(random: &mut Xorshift, bytes: &mut Vec<u8>, unit: usize) {
-    let length = bytes.len();
-    let most = if unit == 4 { 256 } else { 3072 };
-    let lengths = [
-        0,
-        1,
-        length - length.min(1),
-        length + 1,
-        length - length.min(unit),
-        length + unit,
-        most,
-        most + unit,
-    ];
-    bytes.resize(random.pick(&lengths), 0);
-}
-
 /// Gives an entry a kind from 8 to 15, or a bit in some field.
 fn field(random: &mut Xorshift, table: &mut [u8]) {
     if table.len() < 4 {
@@ -123,20 +95,6 @@ fn reference(random: &mut Xorshift, table: &mut [u8]) {
     let shift = random.pick(&[14, 8]);
     let new = old & !(63 << shift) | (to as u32) << shift;
     table[at..at + 4].copy_from_slice(&new.to_be_bytes());
-}
-
-/// Changes a record's kind, its world or its zero bits.
-fn record(random: &mut Xorshift, structure: &mut [u8]) {
-    if structure.len() < 3 {
-        return;
-    }
-    let at = 3 * random.below(structure.len() / 3);
-    match random.below(4) {
-        0 => structure[at] = structure[at] & 0x3f | (random.below(4) as u8) << 6,
-        1 => structure[at] = structure[at] & 0xc0 | random.below(64) as u8,
-        2 => structure[at + 2] ^= 1 << random.below(8),
-        _ => structure[0] = random.below(4) as u8,
-    }
 }
 
 fn entry(random: &mut Xorshift, count: usize) -> usize {

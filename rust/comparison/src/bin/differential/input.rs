@@ -58,7 +58,7 @@ pub fn needed(table: &[u8], asked: &[usize]) -> usize {
     layout::work_words(&entries, asked.max().unwrap_or(0))
 }
 
-/// A structure over the signs of the table, if it can be read; some records repeat.
+/// A structure over the signs of the table, if it can be read; some records repeat, and some links have copies.
 fn structure(random: &mut Xorshift, table: &[u8]) -> Vec<u8> {
     let entries = refusals::table(table).unwrap_or_default();
     let names = |pick: fn(&Entry) -> bool| -> Vec<u8> {
@@ -85,6 +85,7 @@ fn structure(random: &mut Xorshift, table: &[u8]) -> Vec<u8> {
                 from: world,
                 relation: random.pick(&relations),
                 to: random.below(worlds) as u8,
+                copies: random.pick(&[1, 1, 1, 2, 3, 4]),
             },
             _ if all.len() > 1 => all[random.between(1, all.len() - 1)],
             _ => continue,

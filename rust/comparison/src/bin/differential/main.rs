@@ -8,10 +8,10 @@ mod damage;
 mod families;
 mod formula;
 mod input;
-mod lent;
 mod rewrite;
 mod tally;
 
+use hurnavis_comparison::show::hex;
 use hurnavis_comparison::trial::Trial;
 use hurnavis_comparison::xorshift::Xorshift;
 use input::Input;
@@ -58,8 +58,4 @@ fn show(input: &Input) {
         "    model {} answer {} words {} {} {}",
         input.model, input.answer, input.board_words, input.decide_words, input.mark_words
     );
-}
-
-fn hex(bytes: &[u8]) -> String {
-    bytes.iter().map(|b| format!("{b:02x}")).collect()
 }

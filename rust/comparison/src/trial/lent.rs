@@ -1,7 +1,7 @@
 //! What is lent to a call, and whether it left alone what it had to leave.
 
-use hurnavis_comparison::trial::outcome::Outcome;
-use hurnavis_comparison::xorshift::Xorshift;
+use super::outcome::Outcome;
+use crate::xorshift::Xorshift;
 
 /// What is no answer of a decision or a mark, so that a place that is not written shows, and one that is written too.
 pub fn no_answer(random: &mut Xorshift) -> u8 {

@@ -1,7 +1,12 @@
 //! The board as the library filled it until change request P3, function by function: each entry
-//! reads all records for itself. Only the checks of the input are left out.
+//! reads all records for itself. The checks of the structure stand apart, those of the table are
+//! left out.
+//!
+//! It knows no copies. So it is the reading of the base, which stays that of structures whose links
+//! have 0 in their last two bits (P7).
 
-use hurnavis_comparison::layout;
+use crate::layout;
+use hurnavis::Fault;
 
 /// The fields of an entry.
 #[derive(Clone, Copy)]
@@ -20,6 +25,30 @@ struct Record {
     world: u32,
     name: u32,
     to: u32,
+}
+
+/// The base's first fault of a structure: 6; then record by record 7, 8. A link had two zero bits.
+pub fn check(structure: &[u8]) -> Result<(), Fault> {
+    if structure.is_empty() || structure.len() > 3072 || structure.len() % 3 != 0 {
+        return Err(Fault::StructureLength);
+    }
+    let worlds = worlds(structure) as u32;
+    for i in 0..structure.len() / 3 {
+        let r = record_at(structure, i);
+        let zero_bits = match (i, r.kind) {
+            (0, 0) => 0xffff,
+            (1.., 1) => 0xff,
+            (1.., 2) => 3,
+            _ => return Err(Fault::Record),
+        };
+        if big_endian(structure, 3, i) & zero_bits != 0 {
+            return Err(Fault::Record);
+        }
+        if r.world >= worlds || r.kind == 2 && r.to >= worlds {
+            return Err(Fault::World);
+        }
+    }
+    Ok(())
 }
 
 /// Fills the words of an accepted table and structure, entry by entry.
@@ -160,5 +189,33 @@ fn word_at(words: &[u64], at: usize) -> u64 {
         words[at]
     } else {
         0
+    }
+}
+
+#[cfg(test)]
+mod tests {
+    use super::*;
+
+    #[test]
+    fn the_checks_are_the_bases() {
+        // A header of two worlds and a record behind it.
+        let second = |record: [u8; 3]| check(&[[1, 0, 0], record].concat());
+        assert_eq!(second([0x41, 9, 0]), Ok(()));
+        assert_eq!(second([0x81, 9, 4]), Ok(()));
+        assert_eq!(second([0x42, 9, 0]), Err(Fault::World));
+        assert_eq!(second([0x80, 9, 8]), Err(Fault::World));
+        // 7 comes before 8, for a link too.
+        for zero_bit in [[0x42, 9, 0x80], [0x42, 9, 1], [0x82, 9, 2], [0x80, 9, 9]] {
+            assert_eq!(second(zero_bit), Err(Fault::Record));
+        }
+        for kind in [[0, 0, 0], [0xc0, 0, 0]] {
+            assert_eq!(second(kind), Err(Fault::Record));
+        }
+        for header in [[1, 0x80, 0], [1, 0, 1], [0x41, 9, 0], [0x81, 9, 0]] {
+            assert_eq!(check(&header), Err(Fault::Record));
+        }
+        for length in [0, 2, 3075] {
+            assert_eq!(check(&vec![0; length]), Err(Fault::StructureLength));
+        }
     }
 }
