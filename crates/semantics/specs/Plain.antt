@@ -35,11 +35,12 @@ pub record PlainSatisfiable (φ : Formula) : Type 0 where
   pub inside : world < structure .worlds
   pub holds : plainTruth structure φ world ≡ true
 
--- every link has one copy
+-- a link of one copy, or none
 abbrev pub once : Bool → Copies
 once true = one
 once false = none
 
+-- the same worlds and facts, each link with one copy
 unfoldable pub single : Plain → Structure
 single s = record { worlds = s .worlds; holds = s .holds; links = λ r v w. once (s .links r v w) }
 

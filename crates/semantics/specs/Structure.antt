@@ -12,6 +12,7 @@ pub data Copies : Type 0 where
   three : Copies
   four : Copies
 
+-- the number of each
 abbrev pub number : Copies → ℕ
 number none = 0
 number one = 1

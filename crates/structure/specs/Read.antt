@@ -21,7 +21,7 @@ statesFact r p w = eqb (r .kind) 1 && eqb (r .name) p && eqb w (r .world)
 abbrev pub statesLink : Record → ℕ → ℕ → ℕ → Bool
 statesLink r relation v w = eqb (r .kind) 2 && eqb (r .name) relation && eqb v (r .world) && eqb w (r .to)
 
--- the last two bits of a link are its copies less 1
+-- the last two bits of a link are its copies less 1; two bits spell no number above 3
 abbrev pub copiesOf : ℕ → Copies
 copiesOf field = getD (one ∷ two ∷ three ∷ four ∷ []) field four
 

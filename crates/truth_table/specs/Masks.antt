@@ -27,7 +27,7 @@ abbrev pub Asks : Entry → Bool → Type 0
 Asks e false = e .kind ≡ 2
 Asks e true = 6 ≤ e .kind
 
--- the numbers that tell how a row lies are small
+-- how a row lies, in numbers that are known to fit: at one level or at four, for at most 64 worlds, from a place of 16 bits on
 pub record Sized (grid : Grid) (at : ℕ) : Type 0 where
   pub some : 1 ≤ grid .levels
   pub few : grid .levels ≤ 4
