@@ -1,7 +1,7 @@
 -- Document 02, P7, from the promises of the calls: the board matches the structure in which every world stands four times; drawings with no copies read
 -- as before; possible and every mark are as they are without copies.
 use mathlib.Core.Path.{_≡_, sym, ap, _∙_}
-use mathlib.Core.Logic.{_↔_}
+use mathlib.Core.Logic.{_↔_, Iff·trans}
 use mathlib.Core.List.{List}
 use Prim.Native.Nat.{ℕ, _+_, _*_, _<_}
 use lib.Dec.{ltb}
@@ -33,9 +33,6 @@ use Rattle.mark.specs.Mark.{numberOf as markNumber, markingNumber, MarkingIs}
 use Rattle.mark.specs.Plain.{PlainMarkIs}
 use Rattle.mark.proofs.Plain.{plain-mark}
 use Rattle.hurnavis.proofs.Demands.{decision-possible, mark-exactly}
-
-then : {P Q R : Type 0} → P ↔ Q → Q ↔ R → P ↔ R
-then a b = (λ p. b .0 (a .0 p), λ r. a .1 (b .1 r))
 
 -- where every link has one copy, a word is that of the structure without copies
 single-word : (s : Plain) (entry : ℕ → Entry) (i : ℕ) → truthWord (single s) entry i ≡ word (plainTruth s (formulaAt entry i)) (s .worlds)
@@ -70,10 +67,10 @@ module _ (bytes packed before after : List ℕ) (r : Verdict) (is : r ≡ boardV
 -- A call without a fault answers 1, possible, exactly when some finite structure without copies has a world where the entry is true.
 pub decision-plain : (bytes : List ℕ) (e : ℕ) (before after : List ℕ) (r : Decision) → DecisionIs bytes e before after r
     → decideVerdict bytes e (length before) ≡ Accepted → (decided r ≡ 1) ↔ PlainSatisfiable (formulaAt (entryAt bytes) e)
-decision-plain bytes e before after r is ok = then (decision-possible bytes e before after r is ok) (satisfiable-plain (formulaAt (entryAt bytes) e))
+decision-plain bytes e before after r is ok = Iff·trans (decision-possible bytes e before after r is ok) (satisfiable-plain (formulaAt (entryAt bytes) e))
 
 -- It answers the number of a mark exactly when that mark fits by structures without copies.
 pub mark-plain : (bytes : List ℕ) (model answer : ℕ) (before after : List ℕ) (r : Marking) → MarkingIs bytes model answer before after r
     → pairVerdict bytes model answer (length before) ≡ Accepted
     → (m : Mark) → (markingNumber r ≡ markNumber m) ↔ PlainMarkIs (formulaAt (entryAt bytes) model) (formulaAt (entryAt bytes) answer) m
-mark-plain bytes model answer before after r is ok m = then (mark-exactly bytes model answer before after r is ok m) (plain-mark _ _ m)
+mark-plain bytes model answer before after r is ok m = Iff·trans (mark-exactly bytes model answer before after r is ok m) (plain-mark _ _ m)

@@ -1,7 +1,7 @@
 -- Every mark is as it is without copies. Why: the fourfold structure shows what holds with copies, and a structure without them is one whose links have
 -- one copy each.
 use mathlib.Core.Path.{_≡_, sym, _∙_}
-use mathlib.Core.Logic.{_↔_}
+use mathlib.Core.Logic.{_↔_, Iff·and, Iff·not}
 use Prim.Native.Nat.{ℕ, _+_, _*_, _<_}
 use native.Mathlib.Omega.{arith}
 use Rattle.semantics.specs.Formula.{Formula}
@@ -56,15 +56,12 @@ module _ (φ ψ : Formula) where
     },
   )
 
-both : {A A′ B B′ : Type 0} → A ↔ A′ → B ↔ B′ → (A × B) ↔ (A′ × B′)
-both a b = (λ x. (a .0 (x .0), b .0 (x .1)), λ x. (a .1 (x .0), b .1 (x .1)))
-
 three : {A A′ B B′ C C′ : Type 0} → A ↔ A′ → B ↔ B′ → C ↔ C′ → (A × B × C) ↔ (A′ × B′ × C′)
 three a b c = (λ x. (a .0 (x .0), b .0 (x .1), c .0 (x .2)), λ x. (a .1 (x .0), b .1 (x .1), c .1 (x .2)))
 
 pub plain-mark : (model answer : Formula) (m : Mark) → MarkIs model answer m ↔ PlainMarkIs model answer m
-plain-mark model answer Mark.Equal = both (satisfiable-plain answer) (same-plain model answer)
+plain-mark model answer Mark.Equal = Iff·and (satisfiable-plain answer) (same-plain model answer)
 plain-mark model answer Mark.Narrower = three (satisfiable-plain answer) (inside-plain answer model) (beyond-plain model answer)
 plain-mark model answer Mark.Wider = three (satisfiable-plain answer) (inside-plain model answer) (beyond-plain answer model)
 plain-mark model answer Mark.Crossing = three (satisfiable-plain answer) (beyond-plain answer model) (beyond-plain model answer)
-plain-mark model answer Mark.Impossible = (λ none sat. none (satisfiable-plain answer .1 sat), λ none sat. none (satisfiable-plain answer .0 sat))
+plain-mark model answer Mark.Impossible = Iff·not (satisfiable-plain answer)
