@@ -15,7 +15,7 @@ use wants::{Outcome, Wants, want, wanted};
 use wide::wide_at;
 
 // What is known of an entry at any world that is as wanted.
-#[derive(Drop)]
+#[derive(Clone, Copy)]
 enum Known {
     // It is so.
     So,
@@ -26,7 +26,7 @@ enum Known {
 }
 
 // The part of a pending entry that must be as it serves.
-#[derive(Drop)]
+#[derive(Clone, Copy)]
 enum Left {
     Part(usize),
     // Neither, for what is known of them.

@@ -1,5 +1,7 @@
 // A check of numbers of copies of listed sets, in lent words: do they complete the slots to a solution?
 // Where the numbers come from needs no proof.
+#![tactic(auto)]
+
 ghost use Rattle.std.specs.Prelude.{◌≡◌, true, ◌+◌, ◌≤◌, length};
 ghost use Rattle.tableau.specs.Search.{Extension};
 ghost use Rattle.counting.specs.Question.{problem_of};

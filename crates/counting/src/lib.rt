@@ -1,6 +1,8 @@
 // The search for a solution of one relation's needs and limits: slots of successors, each described by the promises that
 // they keep. It asks nobody whether a set of promises can be kept: it stops and hands the set out, and goes on with the
 // answer. The stack of slots is kept in lent words.
+#![tactic(auto)]
+
 ghost use Rattle.std.specs.Prelude.{◌≡◌, true, List, ℕ, suc, ◌+◌, ◌*◌, ◌≤◌, length};
 ghost use Rattle.table.specs.Space.{sum_of_grades};
 ghost use Rattle.sets.specs.Word.{bit_at};
@@ -19,14 +21,14 @@ use question::Question;
 use sets::{Below, Set};
 
 // Where the search stands: how many slots are on the stack, and the set to try next, if there is one.
-#[derive(Drop)]
+#[derive(Clone, Copy)]
 pub struct Cursor {
     pub slots: usize,
     pub next: Set,
     pub more: bool,
 }
 
-#[derive(Drop)]
+#[derive(Clone, Copy)]
 pub enum Step {
     // The slots are a solution.
     Found,
@@ -36,7 +38,7 @@ pub enum Step {
     Ask(Cursor, u64),
 }
 
-#[derive(Drop)]
+#[derive(Clone, Copy)]
 enum Turn {
     Stop(Step),
     Go(Cursor),

@@ -11,7 +11,7 @@ use table::entry::Entry;
 use wide::wide_at;
 
 // The entries wanted true and those wanted false, and the relation whose successors are counted.
-#[derive(Drop)]
+#[derive(Clone, Copy)]
 pub struct Question {
     pub yes: Set,
     pub no: Set,

@@ -9,7 +9,7 @@ ghost use Rattle.decision.specs.Call.{pair_verdict, NeededIs, Cleared};
 use faults::{Fault, Verdict};
 
 // The words that a call on entries has to be lent, document 01's W; or why it is refused whatever it is lent.
-#[derive(Drop)]
+#[derive(Clone, Copy)]
 pub enum Needed {
     Words(usize),
     Refused(Fault),

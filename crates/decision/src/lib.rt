@@ -1,4 +1,6 @@
 // The decision: whether an entry of a table is possible.
+#![tactic(auto)]
+
 ghost use Rattle.std.specs.Prelude.{◌≡◌, ◌<◌, ◌≤◌, length};
 ghost use Rattle.semantics.specs.Truth.{Satisfiable};
 ghost use Rattle.semantics.specs.Answer.{Answers};
@@ -18,7 +20,7 @@ use call::{checked, clear, pair_depth};
 use faults::{Fault, Verdict};
 
 // Whether some world of some finite structure makes the entry true; or why the call is refused.
-#[derive(Drop)]
+#[derive(Clone, Copy)]
 pub enum Decision {
     Possible,
     Impossible,

@@ -15,6 +15,7 @@ const MAX_ENTRIES: u8 = 64;
 const MAX_NAME: u8 = 15;
 
 // Word i of a draft with so many entries: a good entry, or 0 behind them.
+#[tactic(auto, using(crate::proofs::Tests::tests))]
 fn check_word(word: u32, i: usize, count: u8) -> Verdict
     ensures { result ≡ word_verdict count word i }
 {
@@ -45,6 +46,7 @@ fn check_words(words: [u32; 64], count: u8) -> Verdict
 }
 
 // A saved length of a draft with so many entries: not saved, or no more than there are.
+#[tactic(auto, using(crate::proofs::Tests::tests))]
 fn check_length(saved: u8, count: u8) -> Verdict
     ensures { result ≡ length_verdict count saved }
 {
@@ -99,6 +101,7 @@ fn first_of(first: Verdict, later: Verdict) -> Verdict
 }
 
 // What adding is refused for: no room, whatever the entry is, then the entry.
+#[tactic(auto, using(crate::proofs::Tests::tests))]
 fn check_next(draft: Draft, entry: u32) -> Verdict
     ensures { result ≡ own_verdict (Add entry) draft }
 {

@@ -1,5 +1,7 @@
 // Drafts to return to (document 02, P9): a fresh draft and its steps. Each step refuses a draft that no sequence of steps gives.
 // A draft is by value: `history` says what it holds.
+#![tactic(auto)]
+
 ghost use Rattle.faults.specs.Verdict.{refusal};
 ghost use Rattle.history.specs.History.{fresh};
 ghost use Rattle.history.specs.Shown.{Shows};
@@ -12,7 +14,7 @@ pub mod checking;
 mod stepping;
 
 // What a step gives: the draft, and whether the step is taken. A refused step leaves the draft as it was.
-#[derive(Drop)]
+#[derive(Clone, Copy)]
 pub struct Stepped {
     pub draft: Draft,
     pub verdict: Verdict,

@@ -1,5 +1,7 @@
 // Drafts and bytes: a draft packed into 273 bytes (64 entries of 4 bytes as in a table, the number of entries, 16 saved lengths), and its
 // entries as a table for the other calls.
+#![tactic(auto)]
+
 ghost use Rattle.std.specs.Prelude.{◌≡◌, ◌+◌, ◌*◌, ◌<◌, ◌≤◌, length, get_or};
 ghost use Rattle.table.specs.Entry.{word_in};
 ghost use Rattle.history.specs.Shown.{listed, draft_in, Packs, BytesShow};
@@ -21,7 +23,7 @@ const COUNT: usize = 256;
 const SAVED: usize = 257;
 
 // How many entries a table was given, or what it is refused for.
-#[derive(Drop)]
+#[derive(Clone, Copy)]
 pub enum Tabled {
     Entries(usize),
     Refused(Fault),

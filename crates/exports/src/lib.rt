@@ -1,5 +1,7 @@
 // The calls open to others, for C and Rust: `hurnavis.h` declares them. A call returns 0, or the number of its refusal, and
 // writes its answer to a place that is lent, which a refusal leaves as it was. A slice is a pointer and a length in C.
+#![tactic(auto)]
+
 ghost use Rattle.std.specs.Prelude.{◌≡◌, length};
 ghost use Rattle.faults.specs.Verdict.{refusal};
 ghost use Rattle.table.specs.Check.{table_verdict};

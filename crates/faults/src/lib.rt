@@ -1,11 +1,13 @@
 // Faults: which written limit an input breaks, and the number that a refused call returns for it.
 // Document 01, "Numbers by who can cause them".
+#![tactic(auto)]
+
 ghost use Rattle.std.specs.Prelude.{◌≡◌};
 ghost use Rattle.faults.specs.Verdict.{number_of, refusal};
 
 // One case for each number of document 01, in its order, and of document 02 from 11 on. 5 is no fault's number: document 02, P4,
 // took it out. 13 to 15 wait for their requests.
-#[derive(Drop)]
+#[derive(Clone, Copy)]
 pub enum Fault {
     TableLength,
     Kind,
@@ -22,7 +24,7 @@ pub enum Fault {
 }
 
 // What a check answers: the input is within the limits, or the first fault in document 01's order.
-#[derive(Drop)]
+#[derive(Clone, Copy)]
 pub enum Verdict {
     Accepted,
     Refused(Fault),

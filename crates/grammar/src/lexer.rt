@@ -11,7 +11,7 @@ const MAX_NUMBER: u32 = 255;
 
 // What stands at a place behind spaces: a sign, with the place behind it and whether it has a number over 255; the text's end; or what
 // begins no sign.
-#[derive(Drop)]
+#[derive(Clone, Copy)]
 pub enum Lexed {
     Found(Sign, usize, bool),
     End,
@@ -19,7 +19,7 @@ pub enum Lexed {
 }
 
 // A counting pair's grade and relation, with the place behind them; or no pair.
-#[derive(Drop)]
+#[derive(Clone, Copy)]
 pub enum Pair {
     Read(u32, u32, usize),
     Missing,

@@ -1,9 +1,11 @@
 // Typed text. specs/ says how each sign is spelt, which trees the signs of a text are read as, and what a tree means; proofs/ that a
 // text has at most one tree, and how a reader finds it. The code is a lexer.
+#![tactic(auto)]
+
 pub mod lexer;
 
 // A sign that stands alone: `T`, `F`, `n12`.
-#[derive(Drop)]
+#[derive(Clone, Copy)]
 pub enum Leaf {
     True,
     False,
@@ -11,7 +13,7 @@ pub enum Leaf {
 }
 
 // A sign that stands before its operand: `!`, and a counting pair, `>=2 r7` or `<=2 r7`, with grade and relation.
-#[derive(Drop)]
+#[derive(Clone, Copy)]
 pub enum Prefix {
     Not,
     AtLeast(u32, u32),
@@ -19,14 +21,14 @@ pub enum Prefix {
 }
 
 // A sign that stands between its operands: `&`, `|`.
-#[derive(Drop)]
+#[derive(Clone, Copy)]
 pub enum Join {
     And,
     Or,
 }
 
 // A sign, or a round bracket.
-#[derive(Drop)]
+#[derive(Clone, Copy)]
 pub enum Sign {
     Alone(Leaf),
     Before(Prefix),

@@ -1,5 +1,7 @@
 // The calls open to others, in the order of use. Each refuses bad input instead of requiring good input, and its contract
 // fixes the result, the refusal and all that was lent, in the words of specs/ of the crates below.
+#![tactic(auto)]
+
 ghost use Rattle.std.specs.Prelude.{◌≡◌, length};
 ghost use Rattle.table.specs.Check.{table_verdict};
 ghost use Rattle.decision.specs.Call.{NeededIs};

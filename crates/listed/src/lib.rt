@@ -1,4 +1,6 @@
 // A list of sets in lent words, one code a word: is a set inside one of them, and one more.
+#![tactic(auto)]
+
 ghost use Rattle.std.specs.Prelude.{◌≡◌, true, ◌+◌, ◌<◌, ◌≤◌, length};
 ghost use Rattle.sets.specs.Set.{member, code, Within};
 ghost use Rattle.listed.specs.Codes.{codes_from, Inside, Appended};

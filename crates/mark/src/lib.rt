@@ -1,4 +1,6 @@
 // The mark: how an answer stands to a model, two entries of one table.
+#![tactic(auto)]
+
 ghost use Rattle.std.specs.Prelude.{◌≡◌, ◌<◌, ◌≤◌, length};
 ghost use Rattle.semantics.specs.Formula.{Formula};
 ghost use Rattle.semantics.specs.Truth.{Satisfiable};
@@ -19,7 +21,7 @@ use faults::{Fault, Verdict};
 use sets::Set;
 
 // In the order of their numbers, from 0: document 01's four, and document 02's for an answer that is not possible.
-#[derive(Drop)]
+#[derive(Clone, Copy)]
 pub enum Mark {
     Equal,
     Narrower,
@@ -29,7 +31,7 @@ pub enum Mark {
 }
 
 // A mark, or why the call is refused.
-#[derive(Drop)]
+#[derive(Clone, Copy)]
 pub enum Marking {
     Marked(Mark),
     Refused(Fault),

@@ -13,7 +13,7 @@ use packed::word_at;
 use sets::{Highest, Set};
 
 // What is known of a question: that no world is as it wants, or at least none that also makes such an entry true, or false.
-#[derive(Drop)]
+#[derive(Clone, Copy)]
 pub struct Ruled {
     pub out: bool,
     pub yes: Set,

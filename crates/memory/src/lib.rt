@@ -1,6 +1,8 @@
 // Questions that have been answered, kept in lent words: a slot is the set wanted true, the set wanted false, and the
 // answer. Few slots are for what is learnt, which tells of other questions too. Of the others, half are for questions that
 // are dear to answer. All are overwritten freely.
+#![tactic(auto)]
+
 ghost use Rattle.std.specs.Prelude.{ℕ, ◌+◌, length};
 ghost use Rattle.sets.specs.Set.{member};
 ghost use Rattle.table.specs.declared.entry.Entry.{Entry};
@@ -15,14 +17,14 @@ use sets::Set;
 use slots::{learnt_in, put, slots_in, spread, store};
 
 // A slot, if there is room for any.
-#[derive(Drop)]
+#[derive(Clone, Copy)]
 pub enum Place {
     At(usize),
     Nowhere,
 }
 
 // The answer to a question, if it is remembered.
-#[derive(Drop)]
+#[derive(Clone, Copy)]
 pub enum Remembered {
     Answer(bool),
     Nothing,

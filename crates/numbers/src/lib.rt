@@ -1,4 +1,6 @@
 // The lesser and the greater of two numbers.
+#![tactic(auto)]
+
 ghost use Rattle.std.specs.Prelude.{◌≡◌, min, max};
 
 pub fn min(a: u64, b: u64) -> u64

@@ -1,11 +1,13 @@
 // Decimal numbers in a text.
+#![tactic(auto)]
+
 ghost use Rattle.std.specs.Prelude.{◌≡◌, suc, min, ◌+◌, ◌*◌, ◌≤◌, ◌<◌, get_or};
 ghost use Rattle.numerals.specs.Number.{NumberIs, DigitIs};
 
 use packed::byte_at;
 
 // What stands at a place: a number, cut to a limit and one, with the place behind it; or no number.
-#[derive(Drop)]
+#[derive(Clone, Copy)]
 pub enum Number {
     Read(u32, usize),
     Missing,

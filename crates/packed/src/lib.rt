@@ -1,4 +1,6 @@
 // What packed tables and packed structures share: the numbers that their bytes spell, and lists read without a bound.
+#![tactic(auto)]
+
 ghost use Rattle.std.specs.Prelude.{◌≡◌, ◌+◌, ◌*◌, ◌^◌, ◌<◌, ◌≤◌, length, get_or};
 ghost use Rattle.packed.specs.Bytes.{big_endian_of, Put};
 

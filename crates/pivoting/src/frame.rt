@@ -7,7 +7,7 @@ use sets::Set;
 use std::num;
 
 // Row k is a need or a limit; its entry is in line 0.
-#[derive(Drop)]
+#[derive(Clone, Copy)]
 pub struct Frame {
     pub needs: Set,
     pub limits: Set,

@@ -6,7 +6,7 @@ use crate::number::{is_large, is_negative, minus, over, plus, product, size, tim
 use packed::word_at;
 
 // A variable, or a row, with what speaks for it.
-#[derive(Drop)]
+#[derive(Clone, Copy)]
 pub struct Choice {
     pub at: usize,
     pub size: u64,

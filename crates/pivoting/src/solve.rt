@@ -6,7 +6,7 @@ use crate::{frame, number, pivot};
 // How many steps are tried.
 const STEPS: usize = 400;
 
-#[derive(Drop)]
+#[derive(Clone, Copy)]
 pub enum Stage {
     // This row's variable is negative whatever the columns are taken for.
     Refuted(usize),
@@ -16,7 +16,7 @@ pub enum Stage {
     Lost,
 }
 
-#[derive(Drop)]
+#[derive(Clone, Copy)]
 enum Turn {
     Stop(Stage),
     Go(u64),

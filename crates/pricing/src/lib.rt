@@ -1,6 +1,8 @@
 // What weights that refute a list of sets are worth to sets that are not listed: which promises weigh most, and whether a set
 // would do better than the listed ones (known as pricing, a step of column generation). Nothing rests on it: it says what to try
 // next.
+#![tactic(auto)]
+
 ghost use Rattle.std.specs.Prelude.{◌≡◌, ◌<◌, ◌≤◌, true, length};
 ghost use Rattle.sets.specs.Set.{member, nothing, Within};
 
@@ -13,7 +15,7 @@ use std::num;
 
 // The needs, the entries that weigh something, the divisor by which weights are rounded, and the weights of all entries: bit b
 // of an entry's weight is in plane b. Greater weights are halved until they fit, and not rounded then.
-#[derive(Drop)]
+#[derive(Clone, Copy)]
 pub struct Prices {
     pub needs: Set,
     pub heavy: Set,

@@ -18,7 +18,7 @@ use selection::solved;
 use sets::{Highest, Set};
 
 // How many sets are listed: all that there are, or as many as there is room for.
-#[derive(Drop)]
+#[derive(Clone, Copy)]
 pub enum Listing {
     Room(usize),
     Full(usize),

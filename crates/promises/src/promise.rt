@@ -15,7 +15,7 @@ use wants::{Outcome, Wants, want, with_if};
 use wide::wide_at;
 
 // The parts of promised needs, and of promised limits.
-#[derive(Drop)]
+#[derive(Clone, Copy)]
 pub struct Parts {
     pub yes: Set,
     pub no: Set,

@@ -1,5 +1,7 @@
 // A question to the linear relaxation of what is left of a search: do weights refute it, do whole copies solve it, or else,
 // which set is the one to branch on? It works in the words behind the list, and what it finds is checked.
+#![tactic(auto)]
+
 ghost use Rattle.std.specs.Prelude.{◌+◌, ◌<◌, ◌≤◌, length};
 ghost use Rattle.counting.specs.Question.{problem_of};
 ghost use Rattle.counting.specs.Stack.{slots_of};
@@ -15,7 +17,7 @@ use simplex::Verdict;
 use weights::refutes;
 use wide::wide_at;
 
-#[derive(Drop)]
+#[derive(Clone, Copy)]
 pub enum Relaxed {
     // Copies of the listed sets do not complete the slots.
     Refuted,
@@ -26,7 +28,7 @@ pub enum Relaxed {
 }
 
 // The entries with a bound that was laid out.
-#[derive(Drop)]
+#[derive(Clone, Copy)]
 struct Bounds {
     needs: Set,
     limits: Set,

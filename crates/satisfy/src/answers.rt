@@ -2,7 +2,7 @@
 use sets::Set;
 
 // Where a solution may be looked for.
-#[derive(Drop)]
+#[derive(Clone, Copy)]
 pub enum Guess {
     // Among so many listed sets.
     Among(usize),
@@ -13,7 +13,7 @@ pub enum Guess {
 }
 
 // What a list says of a problem.
-#[derive(Drop)]
+#[derive(Clone, Copy)]
 pub enum Said {
     // It has a solution.
     Yes,

@@ -2,6 +2,8 @@
 // tells that there is none, or finds one, or tells which listed set to take next and how often to take it first; every other
 // number of copies that is of use is tried after that, until weights refute all that are left at once. The search asks nothing.
 // The codes of the list stand in lent words, behind the stack of slots, and the words behind them are there for the relaxation.
+#![tactic(auto)]
+
 ghost use Rattle.std.specs.Prelude.{◌≡◌, true, suc, ◌<◌, ◌≤◌, length};
 ghost use Rattle.sets.specs.Set.{code};
 ghost use Rattle.counting.specs.Question.{problem_of};
@@ -35,6 +37,7 @@ pub fn solved(
 
 // Whether copies of the k listed sets from a place on make the slots a solution.
 #[cycle(branch_fall_rise_select_tried_vary)]
+#[tactic(auto, using(crate::proofs::Selecting::none_selected))]
 fn select(
     entries: &[u64],
     q: Question,

@@ -1,1 +1,2 @@
 // The meaning of formulas. Everything here is in specs/; there is no code to run.
+#![tactic(auto)]

@@ -1,23 +1,25 @@
 // Sets of numbers below 64, as the bits of one word, by value.
+#![tactic(auto)]
+
 ghost use Rattle.std.specs.Prelude.{◌≡◌, ◌↔◌, true, ◌<◌};
 ghost use Rattle.semantics.specs.Count.{count};
 ghost use Rattle.sets.specs.Set.{member, nothing, added, removed, either, both, but_not, HighestOf, Within, code, BelowOf};
 
 // Bit i is set where i is in the set.
-#[derive(Drop)]
+#[derive(Clone, Copy)]
 pub struct Set {
     pub bits: u64,
 }
 
 // The greatest number of a set, if it has any.
-#[derive(Drop)]
+#[derive(Clone, Copy)]
 pub enum Highest {
     At(usize),
     Nothing,
 }
 
 // The set that comes next below another, if any does.
-#[derive(Drop)]
+#[derive(Clone, Copy)]
 pub enum Below {
     At(Set),
     Nothing,

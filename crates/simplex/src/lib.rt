@@ -1,5 +1,7 @@
 // Weights that refute a counting problem, or copies of its columns that solve it, found by the simplex method. Nothing is
 // promised of what is found: whoever asks checks it.
+#![tactic(auto)]
+
 pub mod rounding;
 pub mod row_weights;
 
@@ -13,7 +15,7 @@ use sets::Set;
 // The copies to try first where nothing speaks for a number: as many as are of use.
 const MOST: u64 = 65536;
 
-#[derive(Drop)]
+#[derive(Clone, Copy)]
 pub enum Verdict {
     // Words 0 to 63 are weights by entry, and this is their divisor.
     Weights(u64),

@@ -5,7 +5,7 @@ use pivoting::frame::{Frame, MATRIX, WEIGHTS};
 use pivoting::number::{is_negative, plus, product, size};
 
 // A weighted sum of needs and one of limits.
-#[derive(Drop)]
+#[derive(Clone, Copy)]
 pub struct Sides {
     pub needs: u64,
     pub limits: u64,

@@ -6,7 +6,7 @@ use packed::big_endian;
 
 // The fields of a record, the same for its three kinds. A header's world is the number of worlds less 1, and a link's is
 // the world that it leads from; a name is a fact's or a relation's.
-#[derive(Drop)]
+#[derive(Clone, Copy)]
 pub struct Record {
     pub kind: u32,
     pub world: u32,

@@ -1,5 +1,7 @@
 // Whether a text has a tree, and what is counted in it: one pass over the signs, with the open brackets as a number, so that a text of any
 // length is decided and nothing is as deep as the text.
+#![tactic(auto)]
+
 ghost use Rattle.std.specs.Prelude.{◌≡◌};
 ghost use Rattle.grammar.specs.declared.Sign.{Sign};
 ghost use Rattle.grammar.specs.Measure.{weight};
@@ -9,21 +11,21 @@ use grammar::Sign;
 use grammar::lexer::{Lexed, either, sign_at};
 
 // Whether an operand comes next, and how many brackets are open.
-#[derive(Drop)]
+#[derive(Clone, Copy)]
 pub struct Mode {
     pub operand: bool,
     pub depth: usize,
 }
 
 // Where a sign leads: on, or out of the grammar.
-#[derive(Drop)]
+#[derive(Clone, Copy)]
 pub enum Stepped {
     To(Mode),
     Outside,
 }
 
 // What a text is: one with a tree, how many entries it makes, and whether one of its numbers is over 255; or outside the grammar.
-#[derive(Drop)]
+#[derive(Clone, Copy)]
 pub enum Surveyed {
     Inside(usize, bool),
     Outside,

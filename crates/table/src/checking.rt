@@ -67,6 +67,7 @@ fn check_fields(word: u32, i: usize) -> Verdict
 }
 
 // The first fault of a packed entry, as entry number i: 2, then 3, then 4.
+#[tactic(auto, using(crate::proofs::Tests::tests))]
 pub fn check_entry(word: u32, i: usize) -> Verdict
     ensures { result ≡ entry_verdict (entry_of word) i }
 {

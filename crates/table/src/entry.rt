@@ -5,7 +5,7 @@ ghost use Rattle.table.specs.Entry.{entry_of, word_in, entry_in, Packable, PutEn
 use packed::big_endian;
 
 // The fields of an entry. A field that its kind does not use means nothing.
-#[derive(Drop)]
+#[derive(Clone, Copy)]
 pub struct Entry {
     pub kind: u32,
     pub name: u32,

@@ -23,7 +23,7 @@ pub fn all_worlds(worlds: usize) -> u64
 }
 
 // How the row of a relation lies: a word for each of the first `width` worlds that links lead from, at each of the levels.
-#[derive(Drop)]
+#[derive(Clone, Copy)]
 pub struct Grid {
     pub width: usize,
     pub levels: usize,
@@ -38,6 +38,7 @@ fn at_level(masks: &[u64], at: usize, part: u64) -> u32
 }
 
 // How many copies the links to worlds that pass have, by the levels of a word: one, or four.
+#[tactic(auto, unfolding(semantics::specs::Count::sum))]
 fn counted(masks: &[u64], at: usize, levels: usize, part: u64) -> u32
     requires { ((levels ≡ 1 → ⊥) → levels ≡ 4) × (1 ≤ levels) × (at + levels ≤ length masks.now) }
     ensures { result ≡ sum (λ t. ones (bit_and (get_or masks.now (at + t) 0) part)) levels }

@@ -1,4 +1,6 @@
 // The truth table of a structure (document 01: the board): which entries of a table are true at which worlds.
+#![tactic(auto)]
+
 ghost use Rattle.std.specs.Prelude.{◌≡◌, true, ℕ, ◌+◌, ◌*◌, ◌≤◌, ◌<◌, length, get_or};
 ghost use Rattle.faults.specs.declared.Verdict.TheVariants.{Accepted};
 ghost use Rattle.semantics.specs.Structure.{Structure};

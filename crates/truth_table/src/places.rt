@@ -13,7 +13,7 @@ const MAX_WORDS: usize = 4160;
 
 // Some entries of a table that are laid out at once, `from` to before `to`: how many levels there are, and how many words
 // the rows take at each.
-#[derive(Drop)]
+#[derive(Clone, Copy)]
 pub struct Part {
     pub from: usize,
     pub to: usize,

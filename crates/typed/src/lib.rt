@@ -1,4 +1,6 @@
 // Typed answers: a text to the packed table that means what it reads. Document 02, P1.
+#![tactic(auto)]
+
 ghost use Rattle.std.specs.Prelude.{◌≡◌, ◌||◌, ltb};
 ghost use Rattle.typed.specs.Reading.{ReadingIs};
 
@@ -15,7 +17,7 @@ const MAX_BYTES: usize = 1024;
 const MAX_ENTRIES: usize = 64;
 
 // What reading a text answers: how many entries were written, or why none were.
-#[derive(Drop)]
+#[derive(Clone, Copy)]
 pub enum Reading {
     Entries(usize),
     Refused(Fault),

@@ -8,7 +8,7 @@ use table::entry;
 use table::entry::Entry;
 
 // How many entries are written, how many signs wait for an operand, and how many brackets are open.
-#[derive(Drop)]
+#[derive(Clone, Copy)]
 pub struct Place {
     pub entries: usize,
     pub pending: usize,

@@ -1,6 +1,8 @@
 // What is wanted at a world, as sets of entry numbers, and the rules for one entry more.
 // `want` wants an entry besides what is wanted: it answers the sets that this comes to once every rule has been applied that
 // leaves no choice, or that no world can be so (known as the non-branching rules of a tableau).
+#![tactic(auto)]
+
 ghost use Rattle.std.specs.Prelude.{◌≡◌, true, cond, ℕ, ◌<◌, length};
 ghost use Rattle.sets.specs.Set.{member};
 ghost use Rattle.semantics.specs.Answer.{Answers};
@@ -13,7 +15,7 @@ use sets::{Highest, Set};
 use wide::wide_at;
 
 // The entries wanted true, and those wanted false. Pending are those of them of which one part is enough, while it is open which.
-#[derive(Drop)]
+#[derive(Clone, Copy)]
 pub struct Wants {
     pub yes: Set,
     pub no: Set,
@@ -21,7 +23,7 @@ pub struct Wants {
 }
 
 // What wanting an entry besides comes to.
-#[derive(Drop)]
+#[derive(Clone, Copy)]
 pub enum Outcome {
     // Every rule has been applied.
     Settled(Wants),
@@ -47,7 +49,7 @@ impl Outcome {
 }
 
 // What wanting an entry starts with.
-#[derive(Drop)]
+#[derive(Clone, Copy)]
 enum Step {
     // No part comes first, or the entry was wanted before.
     Done(Outcome),

@@ -1,6 +1,8 @@
 // A check of weights on needs and limits, in lent words: do they refute that copies of listed sets complete the slots? (Known as
 // a Farkas certificate; with a divisor that sums are rounded by, as a Chvátal-Gomory cut.) Where the weights come from needs no
 // proof.
+#![tactic(auto)]
+
 ghost use Rattle.std.specs.Prelude.{◌≡◌, true, ℕ, ◌+◌, ◌<◌, ◌≤◌, length};
 ghost use Rattle.sets.specs.Set.{member, code};
 ghost use Rattle.tableau.specs.Search.{Extension};

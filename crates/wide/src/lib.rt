@@ -1,4 +1,6 @@
 // Entries in 64-bit words, from which the decision reads them.
+#![tactic(auto)]
+
 ghost use Rattle.std.specs.Prelude.{◌≡◌, ◌≤◌};
 ghost use Rattle.table.specs.Entry.{entry_in, size};
 ghost use Rattle.table.specs.Formed.{WellFormed};
