@@ -1,0 +1,15 @@
+-- `byte_at` meets its contract: a byte is below 256, and past the end there is 0.
+use mathlib.Core.Path.{sym}
+use native.Mathlib.Omega.{arith}
+use lib.ListN.{get_or-eq_default}
+use borrow.Author.Rules.{rules}
+use Rattle.packed.proofs.byte_at.Goals as goal
+
+pub overflow_cast-result : goal.overflow_cast-result
+overflow_cast-result c = omega (arith, c.shared_slice_known-1.given c.args.at)
+
+pub returns-then-at-bytes : goal.returns-then-at-bytes
+returns-then-at-bytes c = (search rules, omega (arith, c.shared_slice_known-1.given c.args.at))
+
+pub returns-else-at-bytes : goal.returns-else-at-bytes
+returns-else-at-bytes c = (sym (get_or-eq_default c.args.bytes.now 0 c.if-at-bytes.false), search rules)
