@@ -36,7 +36,7 @@ not_both false x p q = false≢true (sym p ∙ q)
 -- a not is the other way than its part
 pub not_shown : {entry : ℕ → Entry} (w : Wants) {n : ℕ} → WellFormed entry n → (b c : Bool) → not c ≡ b → (i : ℕ) → i < n → (entry i).kind ≡ 3
     → wanted_w w c (entry i).first ≡ true → Shown entry b i w
-not_shown {entry} w formed b c turned i l k h s u inside m =
+not_shown {entry} w formed b c turned i l k h s u _ m =
     let part = not_rule formed s u l (truth_at entry s u i) k refl in
     sym (not-not (truth_at entry s u i)) ∙ ap not (sym part ∙ m.as_wanted c (entry i).first h) ∙ turned
 
@@ -70,8 +70,8 @@ learnt_ruled {entry} w known false i h s u inside m =
     other false (truth_at entry s u i) (λ so. known.never_false i h (record { structure = s; world = u; inside = inside; meets = also_false m i so }))
 
 -- what is ruled out stays so where more is wanted
-pub ruled_more : {entry : ℕ → Entry} {n bound depth : ℕ} {w v : Wants} {r : Ruled} → Forced entry n w bound depth v → RuledFor entry w r → RuledFor entry v r
-ruled_more forced known b i h s u inside m = known b i h s u inside (forced.sound s u m)
+pub ruled_more : {entry : ℕ → Entry} {n bound depth : ℕ} {w v : Wants} (r : Ruled) → Forced entry n w bound depth v → RuledFor entry w r → RuledFor entry v r
+ruled_more r forced known b i h s u within m = known b i h s u within (forced.sound s u m)
 
 -- the highest that is pending and not seen
 pub unseen : (p seen rest : ℕ → Bool) {d : ℕ} → rest ≡ but_not p seen → Greatest rest d → (p d ≡ true) × (seen d ≡ false)

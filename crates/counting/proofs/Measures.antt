@@ -16,7 +16,7 @@ use Rattle.sets.specs.Set.{member, code}
 use Rattle.table.specs.declared.entry.Entry.{Entry}
 use Rattle.wide.specs.Wide.{wide_in}
 use Rattle.semantics.specs.Answer.{Answers}
-use Rattle.tableau.specs.Search.{Slot, Problem, asking, Asks, Lacks, Full, Met, Kept, Useful}
+use Rattle.tableau.specs.Search.{Slot, Problem, asking, Asks, Lacks, Met, Kept, Useful}
 use Rattle.sets.proofs.Tests.{both_parts, both_made}
 use Rattle.tableau.proofs.Bounds.{bound_speaks}
 use Rattle.counting.specs.declared.question.Question.{Question}

@@ -1,6 +1,6 @@
 -- Listed codes, place by place, and what a code that is written behind them changes.
 use mathlib.Core.Path.{◌≡◌, refl, sym, ap, ap₂, ◌∙◌}
-use mathlib.Core.Logic.{◌⊎◌, ⊎_map}
+use mathlib.Core.Logic.{⊎_map}
 use mathlib.Core.Logic.◌⊎◌.{inl, inr}
 use mathlib.Core.Bool.{Bool, true, false, not, ◌&&◌, true≢false}
 use mathlib.Core.List.{List, ◌∷◌}
@@ -33,11 +33,12 @@ module _ (words : List ℕ) where
   code_listed at zero j l = absurd (not-suc-le-zero l)
   code_listed at (suc k) zero l = inl (ap (λ (i : ℕ). get_or words i 0) (add-zero at))
   code_listed at (suc k) (suc j) l =
-      let same : at + suc j ≡ suc at + j = omega arith in
-      inr (rw same (code_listed (suc at) k j (le_of_suc-le-suc l)))
+      let same : suc at + j ≡ at + suc j = omega arith in
+      inr (rw same at (code_listed (suc at) k j (le_of_suc-le-suc l)))
 
   pub listed_place : (at k : ℕ) {b : ℕ} → In b (codes_from words at k) → (j : ℕ) × (j < k) × (b ≡ get_or words (at + j) 0)
   unfolding codes_from
+  listed_place at zero never = elim never [ ]
   listed_place at (suc k) (inl e) = (0, omega arith, e ∙ ap (λ (i : ℕ). get_or words i 0) (sym (add-zero at)))
   listed_place at (suc k) (inr here) =
       let (j, l, e) = listed_place (suc at) k here in

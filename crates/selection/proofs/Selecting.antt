@@ -71,16 +71,20 @@ pub codes_next : (words : List ℕ) (at k : ℕ) → codes_from words at (suc k)
 unfolding codes_from
 codes_next words at k = rw add-one
 
+-- with no set left, only slots that are met already are a solution
+pub none_selected : {P : Problem} {words : List ℕ} {at k slots : ℕ} → (Met P (slots_of words slots) → ⊥) → k ≡ 0 → Selected P words at k slots false words
+unfolding codes_from
+none_selected {P} {words} {at} {k} {slots} un last = record { answers = λ e. never (rw last at e); unchanged = unchanged_none }
+  where
+    never : Extension P (slots_of words slots) [] → ⊥
+    never (done met kept) = un met
+
 module _ {P : Problem} {all : Set} {words : List ℕ} {at k slots : ℕ} (s : Selecting P all words at k slots) where
   pub selected_met : Met P (slots_of words slots) → Selected P words at k slots true words
   selected_met met = record { answers = ext_done met s.kept (codes_from words at k); unchanged = unchanged_none }
 
   pub selected_end : (Met P (slots_of words slots) → ⊥) → k ≡ 0 → Selected P words at k slots false words
-  unfolding codes_from
-  selected_end un last = record { answers = λ e. never (rw last at e); unchanged = unchanged_none }
-    where
-      never : Extension P (slots_of words slots) [] → ⊥
-      never (done met kept) = un met
+  selected_end un last = none_selected un last
 
   pub selecting_space : 2 * slots ≤ at
   selecting_space = omega (arith, serving_bound P words slots s.serving, s.behind.room)

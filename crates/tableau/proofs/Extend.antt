@@ -89,6 +89,7 @@ module _ {P : Problem} where
 
     -- a slot of a listed set can be left for the extension, which has copies of that set at its place in the order
     pub ext_inserted : (list : List ℕ) {b m : ℕ} {slots : List Slot} → In b list → may b → Choice P may (taken b m ∷ slots) list → Choice P may slots list
+    ext_inserted [] {b = b} {m = m} {slots = slots} listed fit _ = elim listed [ ]
     ext_inserted (c ∷ rest) {m = m} {slots = slots} (inl at) fit (some k ok e) =
         some {slots = slots} {b = c} (k + m) (λ pos. rw (← at) fit) (ext_same (rw at (joined_same c k m)) e)
     ext_inserted (c ∷ rest) {b = b} {m = m} (inr later) fit (some k ok e) =

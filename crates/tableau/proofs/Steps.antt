@@ -110,3 +110,4 @@ kept_none = record { kept = λ i a. zero-le }
 pub open_never : {P : Problem} → (Met P [] → ⊥) → Open P [] 0 → ⊥
 unfolding codes_below
 open_never un (next (done met kept)) = un met
+open_never {P = P} un (later never) = elim never [ ]

@@ -86,7 +86,7 @@ module _ {entry : ℕ → Entry} {r : ℕ} (formed : WellFormed entry (suc r)) w
     parts_below : ((entry r).first < r) × ((entry r).second < r)
     unfolding uses_of
     parts_below =
-        let uses : ((uses_of (join_kind b)).first ≡ true) × ((uses_of (join_kind b)).second ≡ true) = elim b [ true ↦ (refl, refl) | false ↦ (refl, refl) ] in
+        let uses : ((uses_of (join_kind b)).first ≡ true) × ((uses_of (join_kind b)).second ≡ true) = elim b as (λ b. ((uses_of (join_kind b)).first ≡ true) × ((uses_of (join_kind b)).second ≡ true)) [ true ↦ (refl, refl) | false ↦ (refl, refl) ] in
         ((formed r (omega arith)).first (rw kind uses.0), (formed r (omega arith)).second (rw kind uses.1))
 
     -- part i may stand for both if the other one, j, adds nothing, if it decides, or if they are the same

@@ -2,12 +2,12 @@
 -- for it, and a double negation, a constant or a repeated part may be left out.
 use mathlib.Core.Path.{◌≡◌, refl, sym, subst, ap, ap₂, ◌∙◌, fun_ext}
 use mathlib.Core.Bool.{Bool, true, false, not, ◌&&◌, ◌||◌, and-true, and_comm, or_comm, or-false, and_self, or_self, not-not}
-use Prim.Native.Nat.{ℕ, suc, max, ◌≤◌}
+use Prim.Native.Nat.{ℕ, max, ◌≤◌}
 use native.Mathlib.Nat.{le_refl, le_trans, le-max_left, le-max_right, max-le, le_of_eq, max_comm}
 use native.Mathlib.Omega.{arith}
 use lib.Dec.{leb}
 use lib.ListN.{get_or}
-use Rattle.semantics.specs.Formula.{Formula, verum, falsum, fact, neg, conj, disj, at_least, at_most, depth}
+use Rattle.semantics.specs.Formula.{Formula, verum, falsum, neg, conj, disj, at_least, at_most, depth}
 use Rattle.semantics.specs.Structure.{successors}
 use Rattle.semantics.specs.Truth.{truth}
 use Rattle.table.specs.declared.entry.Entry.{Entry}

@@ -1,0 +1,222 @@
+use mathlib.Core.Path.{◌≡◌, ◌∙◌}
+use mathlib.Core.Logic.{◌⊎◌, by_cases}
+use mathlib.Core.Logic.◌⊎◌.{inl, inr}
+use Prim.Native.Nat.{ℕ, suc, ◌+◌, ◌-◌, ◌<◌, ◌≤◌, zero-le}
+use native.Mathlib.Numerals.{add-one}
+use native.Mathlib.Decide.{ℕ_discrete, dec_le}
+use native.Mathlib.Omega.{arith}
+use Rattle.sets.specs.Set.{code}
+use Rattle.counting.specs.Question.{problem_of}
+use Rattle.selection.proofs.Selecting.{selected_met, selecting_few, selecting_relaxing, selected_refuted, selected_solved, selecting_seen, selected_seen}
+use Rattle.selection.proofs.Varying.{tried_room, tried_space, tried_selecting, tried_some, tried_none}
+use Rattle.selection.proofs.Varying.{Without, without_varying, without_more, varied_found, varied_spanned, varied_none}
+use Rattle.selection.proofs.Varying.{selecting_next, selected_risen, risen_varying, selected_fallen}
+use Rattle.selection.proofs.Swapping.{swapped_selecting, selected_back}
+use Rattle.selection.proofs.+branch_fall_rise_select_tried_vary.Goals as goal
+use Rattle.selection.proofs.+branch_fall_rise_select_tried_vary.Goals.{fall-Else-tried, rise-Else-tried, select-Else-k-eq0}
+
+-- ---- branch
+
+pub branch-overflow_add-other : goal.branch-overflow_add-other
+branch-overflow_add-other t c = record { fits = omega (arith, c.within.ensures, c.requires.behind.inside, c.well_formed.1.0) }
+
+pub branch-swap-requires : goal.branch-swap-requires
+branch-swap-requires t c = (omega (arith, c.requires.behind.inside), omega (arith, c.within.ensures, c.requires.behind.inside))
+
+pub branch-vary-found-requires : goal.branch-vary-found-requires
+branch-vary-found-requires t c = (omega arith, swapped_selecting c.requires c.within.ensures c.swap.ensures c.swap.auto.words)
+
+pub branch-swap-requires-2 : goal.branch-swap-requires-2
+branch-swap-requires-2 t c =
+    (omega (arith, c.requires.behind.inside, c.swap.auto.words, c.vary-found.auto.words), omega (arith, c.within.ensures, c.requires.behind.inside, c.swap.auto.words, c.vary-found.auto.words))
+
+pub branch-shape_of-words : goal.branch-shape_of-words
+branch-shape_of-words t c = c.swap-2.auto.words ∙ c.vary-found.auto.words ∙ c.swap.auto.words
+
+pub branch-returns : goal.branch-returns
+branch-returns t c =
+    selected_back c.requires c.within.ensures c.swap.ensures c.swap-2.ensures c.vary-found.result c.vary-found.ensures
+
+-- ---- fall
+
+pub fall-tried-requires : goal.fall-tried-requires
+fall-tried-requires t c =
+    (omega arith, without_varying c.requires c.loop-m.invariant.1 (omega (arith, c.loop-m.invariant.0)))
+
+pub fall-shape_of-words-then-tried : goal.fall-shape_of-words-then-tried
+fall-shape_of-words-then-tried t c = c.tried.auto.words ∙ c.loop-m.invariant.1.same_length
+
+pub fall-returns-then-tried : goal.fall-returns-then-tried
+fall-returns-then-tried t c =
+    varied_found c.requires c.loop-m.invariant.1 (omega arith) (omega (arith, c.loop-m.invariant.0, c.loop-m-test.true)) (rw c.if-tried.true at c.tried.ensures)
+
+-- the numbers from one less on
+one_less : (m end j : ℕ) → 0 < m → m - 1 ≤ j → j < end → (j ≡ m - 1) ⊎ ((m ≤ j) × (j < end))
+one_less m end j pos more less = by_cases (ℕ_discrete j (m - 1)) (λ (is : j ≡ m - 1). inl is) (λ (not-it : ¬ (j ≡ m - 1)). inr (omega arith, less))
+
+-- the number that was tried gives none
+fall-passed : (t : ℕ) (c : goal.fall-Else-tried t)
+    → (let a = c.args in
+    Without (problem_of a.entries.now a.q) a.words.now a.at a.k a.slots (code a.b) (c.loop-m.m - 1) a.end c.tried.new.words)
+fall-passed t c =
+    without_more c.requires c.loop-m.invariant.1 (c.tried.auto.words ∙ c.loop-m.invariant.1.same_length) (rw c.if-tried.false at c.tried.ensures)
+    (λ j more less. one_less _ _ j c.loop-m-test.true more less)
+
+pub fall-spanned-requires : goal.fall-spanned-requires
+fall-spanned-requires t c =
+    let a = c.args in
+    (selecting_relaxing a.entries.now a.q (without_varying c.requires (fall-passed t (goal.at.fall-spanned-requires t c).Else-tried) {m = 0} zero-le).selecting, omega arith, omega (arith, c.loop-m.invariant.0, c.requires.small))
+
+pub fall-shape_of-words-then-spanned : goal.fall-shape_of-words-then-spanned
+fall-shape_of-words-then-spanned t c = (fall-passed t (goal.at.fall-shape_of-words-then-spanned t c).Else-tried).same_length
+
+-- the numbers up to one, and from it on
+up_to_or_from : (m end j : ℕ) → j < end → ((0 ≤ j) × (j < suc m)) ⊎ ((m ≤ j) × (j < end))
+up_to_or_from m end j less = by_cases (dec_le m j) (λ (more : m ≤ j). inr (more, less)) (λ (not_more : ¬ (m ≤ j)). inl (zero-le, omega arith))
+
+pub fall-returns-then-spanned : goal.fall-returns-then-spanned
+fall-returns-then-spanned t c = varied_spanned c.requires (fall-passed t (goal.at.fall-returns-then-spanned t c).Else-tried) (c.spanned.ensures c.if-spanned.true) (λ j more less. up_to_or_from _ _ j less)
+
+pub fall-loop-m-preserved : goal.fall-loop-m-preserved
+fall-loop-m-preserved t c = (omega (arith, c.loop-m.invariant.0), fall-passed t (goal.at.fall-loop-m-preserved t c).Else-tried)
+
+pub fall-shape_of-words : goal.fall-shape_of-words
+fall-shape_of-words t c = c.loop-m.invariant.1.same_length
+
+pub fall-returns : goal.fall-returns
+fall-returns t c = varied_none c.requires c.loop-m.invariant.1 (omega arith) (omega arith)
+
+-- ---- rise
+
+pub rise-tried-requires : goal.rise-tried-requires
+rise-tried-requires t c = (omega arith, without_varying c.requires c.loop-m.invariant.1 c.loop-m-test.true)
+
+pub rise-shape_of-words-then-tried : goal.rise-shape_of-words-then-tried
+rise-shape_of-words-then-tried t c = c.tried.auto.words ∙ c.loop-m.invariant.1.same_length
+
+pub rise-returns-then-tried : goal.rise-returns-then-tried
+rise-returns-then-tried t c =
+    varied_found c.requires c.loop-m.invariant.1 c.loop-m.invariant.0 (omega (arith, c.loop-m-test.true)) (rw c.if-tried.true at c.tried.ensures)
+
+pub rise-overflow_add-m : goal.rise-overflow_add-m
+rise-overflow_add-m t c = record { fits = omega (arith, c.loop-m-test.true, c.requires.small) }
+
+-- the numbers up to one more
+one_more : (start m j : ℕ) → start ≤ j → j < m + 1 → (j ≡ m) ⊎ ((start ≤ j) × (j < m))
+one_more start m j more less = by_cases (ℕ_discrete j m) (λ (is : j ≡ m). inl is) (λ (not-it : ¬ (j ≡ m)). inr (more, omega arith))
+
+-- the number that was tried gives none
+rise-passed : (t : ℕ) (c : goal.rise-Else-tried t)
+    → (let a = c.args in
+    Without (problem_of a.entries.now a.q) a.words.now a.at a.k a.slots (code a.b) a.start (c.loop-m.m + 1) c.tried.new.words)
+rise-passed t c =
+    without_more c.requires c.loop-m.invariant.1 (c.tried.auto.words ∙ c.loop-m.invariant.1.same_length) (rw c.if-tried.false at c.tried.ensures)
+    (λ j more less. one_more _ _ j more less)
+
+pub rise-spanned-requires : goal.rise-spanned-requires
+rise-spanned-requires t c =
+    let a = c.args in
+    (selecting_relaxing a.entries.now a.q (without_varying c.requires (rise-passed t (goal.at.rise-spanned-requires t c).Else-tried) {m = 0} zero-le).selecting, omega (arith, c.loop-m-test.true, c.requires.small), c.requires.small)
+
+pub rise-shape_of-words-then-spanned : goal.rise-shape_of-words-then-spanned
+rise-shape_of-words-then-spanned t c = (rise-passed t (goal.at.rise-shape_of-words-then-spanned t c).Else-tried).same_length
+
+-- the numbers from one on, and up to it
+from_or_up_to : (start m most j : ℕ) → start ≤ j → j < suc most → ((m ≤ j) × (j < suc most)) ⊎ ((start ≤ j) × (j < m + 1))
+from_or_up_to start m most j more less = by_cases (dec_le m j) (λ (from : m ≤ j). inl (from, less)) (λ (not-from : ¬ (m ≤ j)). inr (more, omega arith))
+
+pub rise-returns-then-spanned : goal.rise-returns-then-spanned
+rise-returns-then-spanned t c = varied_spanned c.requires (rise-passed t (goal.at.rise-returns-then-spanned t c).Else-tried) (c.spanned.ensures c.if-spanned.true) (λ j more less. from_or_up_to _ _ _ j more less)
+
+pub rise-loop-m-preserved : goal.rise-loop-m-preserved
+rise-loop-m-preserved t c = (omega (arith, c.loop-m.invariant.0), rise-passed t (goal.at.rise-loop-m-preserved t c).Else-tried)
+
+pub rise-shape_of-words : goal.rise-shape_of-words
+rise-shape_of-words t c = c.loop-m.invariant.1.same_length
+
+pub rise-returns : goal.rise-returns
+rise-returns t c = varied_none c.requires c.loop-m.invariant.1 (omega arith) (omega (arith, c.loop-m-test.false))
+
+-- ---- select
+
+pub select-met-requires : goal.select-met-requires
+select-met-requires t c =
+    let a = c.args in
+    (selecting_few a.entries.now a.q c.requires, c.requires.all_asking)
+
+pub select-returns-then-met : goal.select-returns-then-met
+select-returns-then-met t c = selected_met c.requires (rw c.if-met.true at c.met.ensures)
+
+pub select-seen-requires : goal.select-seen-requires
+select-seen-requires t c =
+    let a = c.args in
+    selecting_relaxing a.entries.now a.q c.requires
+
+-- there is a set left
+some_left : (t : ℕ) (c : goal.select-Else-k-eq0 t) → suc (c.args.k - 1) ≡ c.args.k
+some_left t c = omega (arith, c.if-k-eq0.false)
+
+pub select-branch-entries-requires : goal.select-branch-entries-requires
+select-branch-entries-requires t c =
+    (omega (arith, some_left t (goal.at.select-branch-entries-requires t c).Else-k-eq0), rw (some_left t (goal.at.select-branch-entries-requires t c).Else-k-eq0) (selecting_seen c.requires c.seen.ensures c.seen.auto.words))
+
+pub select-returns-in-Refuted : goal.select-returns-in-Refuted
+select-returns-in-Refuted t c = selected_refuted c.requires (c.in-Refuted.ensures)
+
+pub select-returns-in-Solved : goal.select-returns-in-Solved
+select-returns-in-Solved t c = selected_solved c.requires (c.in-Solved.ensures)
+
+pub select-returns-in-Unknown : goal.select-returns-in-Unknown
+select-returns-in-Unknown t c =
+    selected_seen c.requires c.seen.ensures c.branch-entries.result (rw (some_left t (goal.at.select-returns-in-Unknown t c).Else-k-eq0) at c.branch-entries.ensures)
+
+-- ---- tried
+
+pub tried-select-requires : goal.tried-select-requires
+tried-select-requires t c = (omega arith, c.requires.selecting)
+
+pub tried-returns-then-m-eq0 : goal.tried-returns-then-m-eq0
+tried-returns-then-m-eq0 t c = tried_none c.requires c.if-m-eq0.true c.select.result c.select.ensures
+
+pub tried-put_slot-requires : goal.tried-put_slot-requires
+tried-put_slot-requires t c = tried_space c.requires (omega (arith, c.if-m-eq0.false))
+
+pub tried-overflow_add-slots : goal.tried-overflow_add-slots
+tried-overflow_add-slots t c = record { fits = omega (arith, tried_room c.requires (omega (arith, c.if-m-eq0.false)), c.ranges.at) }
+
+pub tried-select-requires-2 : goal.tried-select-requires-2
+tried-select-requires-2 t c =
+    (omega arith, rw add-one (tried_selecting c.requires (omega (arith, c.if-m-eq0.false)) c.put_slot.ensures))
+
+pub tried-returns : goal.tried-returns
+tried-returns t c =
+    tried_some c.requires (omega (arith, c.if-m-eq0.false)) c.put_slot.ensures c.select-2.result (rw add-one at c.select-2.ensures)
+
+-- ---- vary
+
+pub vary-useful-most-requires : goal.vary-useful-most-requires
+vary-useful-most-requires t c =
+    let a = c.args in
+    (selecting_few a.entries.now a.q c.requires, c.requires.kept)
+
+pub vary-rise-requires : goal.vary-rise-requires
+vary-rise-requires t c = (omega arith, selecting_next c.requires c.useful-most.ensures)
+
+pub vary-returns-then-rise : goal.vary-returns-then-rise
+vary-returns-then-rise t c =
+    selected_risen c.requires c.useful-most.ensures (c.of_code-b.ensures ∙ c.word_at.ensures) (rw c.if-rise.true at c.rise.ensures)
+
+pub vary-fall-requires : goal.vary-fall-requires
+vary-fall-requires t c = (
+  omega arith,
+  risen_varying c.requires c.useful-most.ensures (c.of_code-b.ensures ∙ c.word_at.ensures) (omega (arith, c.min-start.ensures)) (rw c.if-rise.false at c.rise.ensures)
+      c.rise.auto.words,
+)
+
+pub vary-shape_of-words : goal.vary-shape_of-words
+vary-shape_of-words t c = c.fall.auto.words ∙ c.rise.auto.words
+
+pub vary-returns : goal.vary-returns
+vary-returns t c =
+    selected_fallen c.requires c.useful-most.ensures (c.of_code-b.ensures ∙ c.word_at.ensures) (omega (arith, c.min-start.ensures)) (rw c.if-rise.false at c.rise.ensures)
+    c.fall.result c.fall.ensures

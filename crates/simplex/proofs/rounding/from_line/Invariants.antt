@@ -1,0 +1,11 @@
+-- `from_line` is safe and ends. The invariant: the words keep their length. The measure is what is left to do.
+use mathlib.Core.Path.{◌≡◌}
+use Prim.Native.Nat.{◌-◌}
+use lib.ListN.{length}
+use Rattle.simplex.proofs.rounding.from_line.Given as goal
+
+abbrev pub invariant-loop-j : goal.invariant-loop-j
+invariant-loop-j l = length l.s ≡ length l.initial.s
+
+abbrev pub decreases-loop-j : goal.decreases-loop-j
+decreases-loop-j l = l.rows - l.j
