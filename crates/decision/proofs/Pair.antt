@@ -8,7 +8,6 @@ use lib.Dec.{leb, ltb}
 use borrow.Author.Tests.{ltb-false, leb-false}
 use Rattle.faults.specs.declared.Fault.TheVariants.{EntryNumber, Space}
 use Rattle.faults.specs.declared.Verdict.TheVariants.{Accepted}
-use Rattle.faults.specs.Verdict.{refuse_if}
 use Rattle.faults.proofs.Each.{both_accepted, not_refused, neither, then_then}
 use Rattle.table.specs.Entry.{entry_in, size}
 use Rattle.table.specs.Formulas.{depth_at}

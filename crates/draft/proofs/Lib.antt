@@ -1,0 +1,3 @@
+-- What the search for proofs is given beside its own lemmas.
+-- tests of numbers
+pub mod Tests
