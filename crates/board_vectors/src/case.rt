@@ -1,7 +1,6 @@
 // A case: one call of `hurnavis::board`, its number and every word compared with what document 01 gives.
 use crate::records::{Packed, Records};
 use crate::rows::{Rows, Words, before};
-use libc::STDOUT_FILENO;
 use vectors::entries::Room;
 use vectors::tally::Tally;
 
@@ -21,9 +20,7 @@ fn compare(tally: Tally, got: Words, expected: Words) -> Tally {
     if 66 <= i {
         return tally.case(0, 0);
     }
-    io::write_all(STDOUT_FILENO, b"word ");
-    io::print_decimal(STDOUT_FILENO, i as u64);
-    io::write_all(STDOUT_FILENO, b", ");
+    tally.word(i);
     tally.case(got[i], expected[i])
 }
 

@@ -84,10 +84,8 @@ pub fn entries(before: Tally) -> Tally {
 // 1,023 times the same link.
 fn same_link() -> Records {
     let mut records = Records::of(3);
-    let mut left: u32 = 1023;
-    while 0 < left {
+    for _ in 0..1023 {
         records = records.link(0, 7, 2);
-        left -= 1;
     }
     records
 }

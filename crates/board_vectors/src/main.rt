@@ -1,8 +1,10 @@
 // The board, run on document 01's examples and at its boundaries. Each case states the number that document 01 gives, 0
 // for an answer, and the words, and is compared with `hurnavis::board`. A case that comes out differently is reported
 // on a line.
+#![tactic(auto)]
+
 mod case;
-mod copies;
+mod copied;
 mod counts;
 mod full;
 mod meanings;
@@ -14,6 +16,7 @@ mod rows;
 use case::lends;
 use records::Records;
 use rows::Rows;
+use std::io;
 use vectors::entries::{FALSE, TRUE, and, at_least, at_most, fact, not};
 use vectors::tally::Tally;
 
@@ -61,8 +64,8 @@ fn examples(before: Tally) -> Tally {
     lends(tally, rows, build, 66, 0)
 }
 
-fn main() {
-    let mut tally = Tally::new();
+fn main(rt: HostRuntime) -> io::Result<()> {
+    let mut tally = Tally::new(rt.stdout());
     tally = examples(tally);
     tally = refusals::lengths(tally);
     tally = refusals::misplaced(tally);
@@ -83,10 +86,10 @@ fn main() {
     tally = full::records(tally);
     tally = full::chains(tally);
     tally = rings::rings(tally);
-    tally = copies::numbers(tally);
-    tally = copies::repeated(tally);
-    tally = copies::sums(tally);
-    tally = copies::greatest(tally);
-    tally = copies::fourfold(tally);
-    tally.print(b"board vectors");
+    tally = copied::numbers(tally);
+    tally = copied::repeated(tally);
+    tally = copied::sums(tally);
+    tally = copied::greatest(tally);
+    tally = copied::fourfold(tally);
+    tally.print("board vectors")
 }

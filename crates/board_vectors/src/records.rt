@@ -4,7 +4,7 @@
 pub type Packed = [u8; 3075];
 
 // The first `length` bytes are the structure.
-#[derive(Drop)]
+#[derive(Clone, Copy)]
 pub struct Records {
     pub bytes: Packed,
     pub length: usize,

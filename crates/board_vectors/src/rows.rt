@@ -15,7 +15,7 @@ pub fn before() -> Words {
 
 // The first `bytes` bytes are the table. `words` is what the lent words are to be after an answer: those behind the
 // entries as before.
-#[derive(Drop)]
+#[derive(Clone, Copy)]
 pub struct Rows {
     pub table: Room,
     pub bytes: usize,

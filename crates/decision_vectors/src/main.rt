@@ -1,6 +1,8 @@
 // The decision, run on document 01's examples, at its boundaries and on the deepest tables. Each case states the answer
 // that follows from the meaning and is compared with `hurnavis::decide`, with words full of ones: one fewer than document
 // 01's W, W, and two more. A case that comes out differently is reported on a line.
+#![tactic(auto)]
+
 mod case;
 mod deep;
 mod examples;
@@ -9,10 +11,11 @@ mod parts;
 mod refusals;
 mod relations;
 
+use std::io;
 use vectors::tally::Tally;
 
-fn main() {
-    let mut tally = Tally::new();
+fn main(rt: HostRuntime) -> io::Result<()> {
+    let mut tally = Tally::new(rt.stdout());
     tally = examples::false_parts(tally);
     tally = examples::both_ways(tally);
     tally = examples::overlap(tally);
@@ -31,5 +34,5 @@ fn main() {
     tally = deep::nested(tally);
     tally = deep::chains(tally);
     tally = refusals::order(tally);
-    tally.print(b"decision vectors");
+    tally.print("decision vectors")
 }

@@ -8,7 +8,7 @@ use vectors::tally::Tally;
 const DIFFERENT: u64 = 200;
 
 // The draft after the steps so far.
-#[derive(Drop)]
+#[derive(Clone, Copy)]
 pub struct Ended {
     pub draft: Draft,
     pub tally: Tally,

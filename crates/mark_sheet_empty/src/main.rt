@@ -1,4 +1,8 @@
 // The mark sheet, run on no input: refused 1.
-fn main() {
-    sheet::program::run();
+#![tactic(auto)]
+
+use std::io;
+
+fn main(rt: HostRuntime) -> io::Result<()> {
+    sheet::program::run(&rt)
 }

@@ -1,4 +1,8 @@
 // The mark sheet, run on at least 2 beside not at most 1: equal.
-fn main() {
-    sheet::program::run();
+#![tactic(auto)]
+
+use std::io;
+
+fn main(rt: HostRuntime) -> io::Result<()> {
+    sheet::program::run(&rt)
 }

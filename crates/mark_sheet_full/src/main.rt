@@ -1,4 +1,8 @@
 // The mark sheet, run on the longest input, 259 bytes: 64 facts, of which the last two cross.
-fn main() {
-    sheet::program::run();
+#![tactic(auto)]
+
+use std::io;
+
+fn main(rt: HostRuntime) -> io::Result<()> {
+    sheet::program::run(&rt)
 }

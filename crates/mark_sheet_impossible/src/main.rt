@@ -1,4 +1,8 @@
 // The mark sheet, run on a fact beside the fact and its negation at once: an impossible answer.
-fn main() {
-    sheet::program::run();
+#![tactic(auto)]
+
+use std::io;
+
+fn main(rt: HostRuntime) -> io::Result<()> {
+    sheet::program::run(&rt)
 }

@@ -1,4 +1,8 @@
 // The mark sheet, run on an impossible model beside an answer that always holds. Its W is 8,192, all that is lent.
-fn main() {
-    sheet::program::run();
+#![tactic(auto)]
+
+use std::io;
+
+fn main(rt: HostRuntime) -> io::Result<()> {
+    sheet::program::run(&rt)
 }

@@ -26,7 +26,7 @@ fn number(marking: Marking) -> u64 {
 }
 
 // Two entries of a table: the model's and the answer's.
-#[derive(Drop)]
+#[derive(Clone, Copy)]
 pub struct Entries {
     pub model: usize,
     pub answer: usize,

@@ -1,15 +1,18 @@
 // The mark, run on document 01's example, on each mark, at the ends of the grades and at its refusals. Each case states
 // the mark that follows from the meaning and is compared with `hurnavis::mark`, both ways round, with words full of ones:
 // one fewer than document 01's W, W, and two more. A case that comes out differently is reported on a line.
+#![tactic(auto)]
+
 mod case;
 mod laws;
 mod refusals;
 mod steps;
 
+use std::io;
 use vectors::tally::Tally;
 
-fn main() {
-    let mut tally = Tally::new();
+fn main(rt: HostRuntime) -> io::Result<()> {
+    let mut tally = Tally::new(rt.stdout());
     tally = steps::example(tally);
     tally = steps::facts(tally);
     tally = steps::impossible(tally);
@@ -22,5 +25,5 @@ fn main() {
     tally = laws::typed_twice(tally);
     tally = laws::deep(tally);
     tally = refusals::order(tally);
-    tally.print(b"mark vectors");
+    tally.print("mark vectors")
 }

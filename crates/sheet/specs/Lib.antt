@@ -2,5 +2,5 @@
 pub mod Sheet
 -- the line that is printed
 pub mod Line
--- what the program reads; an inner contract
-pub mod Input
+-- the line for what a program reads
+pub mod Program

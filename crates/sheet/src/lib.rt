@@ -1,4 +1,6 @@
 // The mark sheet of document 01, but for reading and printing: what its input says, and the line that it prints.
+#![tactic(auto)]
+
 ghost use Rattle.std.specs.Prelude.{◌≡◌, length};
 ghost use Rattle.faults.specs.declared.Verdict.TheVariants.{Accepted};
 ghost use Rattle.semantics.specs.Truth.{Satisfiable};
@@ -17,7 +19,7 @@ use mark::{Mark, Marking};
 use packed::byte_at;
 
 // What the sheet says: whether the model is possible, whether the answer is, and the mark; or why the input is refused.
-#[derive(Drop)]
+#[derive(Clone, Copy)]
 pub enum Sheet {
     Filled(bool, bool, Mark),
     Refused(Fault),

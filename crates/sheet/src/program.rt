@@ -1,53 +1,60 @@
-// The mark sheet as a program: reads the standard input and prints one line. No contract can speak of what is read and
-// printed: here only that it is safe and ends is proved, and programs compare what is printed.
-ghost use Rattle.std.specs.Prelude.{◌≤◌, length};
-ghost use Rattle.sheet.specs.Input.{Within};
+// The mark sheet as a program: reads the standard input and prints one line. What it reads and prints is proved of every
+// reader and writer whose bytes a contract can name. Of the standard input and output none can: programs compare what is
+// printed.
+ghost use Rattle.std.specs.Prelude.{◌≡◌, ◌≤◌, length, take, IfOk, OnOk, IfSome};
+ghost use Rattle.std.specs.Io.KnownBytes.{Appends};
+ghost use Rattle.sheet.specs.Program.{Prints};
 
-use libc::{STDERR_FILENO, STDIN_FILENO, STDOUT_FILENO};
+use crate::text::Line;
+use std::io;
+use std::io::{Read, Write};
 
-// What was read: so many bytes, which are the input or fill the room; or a read failed, and the input is not known.
-#[derive(Drop)]
-enum Input {
-    Bytes(usize),
-    Failed,
-}
-
-fn read(room: &mut [u8]) -> Input
-    ensures { Within (length room.new) result }
+// Reads into the room and says how many bytes: the input's first, as many as the room takes.
+fn read<R: Read>(input: &mut R, room: &mut [u8]) -> io::Result<usize>
+    ensures within { IfOk result (λ n. n ≤ length room.new) }
+    ensures bytes { IfOk result (λ n. IfSome (R.remaining input.old) (λ xs. take n room.new ≡ take (length room.new) xs)) }
 {
     let mut n = 0;
     while n < room.len() {
-        let got = libc::read(STDIN_FILENO, &mut room[n..]);
-        if got < 0 {
-            return Input::Failed;
-        }
-        let more = io::count(got, &room[n..]);
+        let more = input.read(&mut room[n..])?;
         if more == 0 {
-            return Input::Bytes(n);
+            break;
         }
         n += more;
     }
-    Input::Bytes(n)
+    Ok(n)
+}
+
+// The line for an input, which is 259 bytes at the most: one byte more tells a longer one, which is refused.
+pub fn line_for<R: Read>(input: &mut R) -> io::Result<Line>
+    ensures { IfOk result (λ line. Prints (R.remaining input.old) line) }
+{
+    let mut room = [0u8; 260];
+    let length = read(input, &mut room)?;
+    let sheet = crate::sheet_of(&room[..length]);
+    Ok(crate::text::line_of(sheet))
 }
 
 // Prints the first bytes, as many as the length says.
-fn print(bytes: [u8; 24], length: usize)
+pub fn print<W: Write>(output: &mut W, bytes: [u8; 24], length: usize) -> io::Result<()>
     requires { length ≤ 24 }
+    ensures { OnOk result (Appends (W.contents output.old) (W.contents output.new) (take length bytes)) }
 {
-    if !io::write_all(STDOUT_FILENO, &bytes[..length]) {
-        io::write_all(STDERR_FILENO, b"the line cannot be printed\n");
-    }
+    output.write_all(&bytes[..length])
 }
 
-// An input is 259 bytes at the most: one byte more tells a longer one, which is refused.
-pub fn run() {
-    let mut room = [0u8; 260];
-    let Input::Bytes(length) = read(&mut room) else {
-        io::write_all(STDERR_FILENO, b"the input cannot be read\n");
-        return;
+// What fails is said on the standard error.
+pub fn run(rt: &(impl Input + Print + Eprint)) -> io::Result<()> {
+    let line = match line_for(&mut rt.reader()) {
+        Ok(line) => line,
+        Err(e) => {
+            eprintln!(rt; "the input cannot be read")?;
+            return Err(e);
+        }
     };
-    let sheet = crate::sheet_of(&room[..length]);
-    let line = crate::text::line_of(sheet);
-    let bytes = line.bytes;
-    print(bytes, line.length);
+    let printed = print(&mut io::writer(rt), line.bytes, line.length);
+    if printed.is_err() {
+        eprintln!(rt; "the line cannot be printed")?;
+    }
+    printed
 }

@@ -6,7 +6,7 @@ ghost use Rattle.sheet.specs.Line.{refused_text, filled_text, text_of, Holds};
 use crate::Sheet;
 
 // The first `length` bytes are the line.
-#[derive(Drop)]
+#[derive(Clone, Copy)]
 pub struct Line {
     pub bytes: [u8; 24],
     pub length: usize,

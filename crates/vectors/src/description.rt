@@ -2,7 +2,7 @@
 use crate::entries::{Room, put};
 
 // The first `bytes` bytes are the table. `grades` is document 01's G: the sum of (grade + 1) over kinds 6 and 7.
-#[derive(Drop)]
+#[derive(Clone, Copy)]
 pub struct Description {
     pub table: Room,
     pub bytes: usize,
@@ -45,10 +45,8 @@ impl Description {
     // These entries, from the first on.
     pub fn of(entries: &[u32]) -> Description {
         let mut d = Description::none();
-        let mut i = 0;
-        while i < entries.len() {
-            d = d.entry(entries[i]);
-            i += 1;
+        for entry in entries {
+            d = d.entry(*entry);
         }
         d
     }
