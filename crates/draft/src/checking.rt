@@ -123,6 +123,7 @@ fn check_name(draft: Draft, name: u8) -> Verdict
 }
 
 // What coming back is refused for: no such name, or nothing saved under it.
+#[tactic(auto, using(crate::proofs::Tests::tests))]
 fn check_saved(draft: Draft, name: u8) -> Verdict
     ensures { result ≡ own_verdict (Back name) draft }
 {

@@ -70,6 +70,7 @@ fn check_records(bytes: &[u8], n: usize) -> Verdict
 }
 
 // Whether a structure is accepted; if not, its first fault in document 01's order.
+#[tactic(auto, using(crate::proofs::Tests::tests), unfolding(crate::specs::Check::structure_verdict))]
 pub fn check(bytes: &[u8]) -> Verdict
     ensures { result ≡ structure_verdict bytes.now }
 {
