@@ -37,6 +37,7 @@ fn grown(value: u32, digit: u32, limit: u32) -> u32
 }
 
 // The number at a place. Digits may be as many as the text has: a number over the limit reads as the limit and one.
+#[tactic(auto, using(crate::proofs::Digits::leading_zero, crate::proofs::Digits::whole_number))]
 pub fn number_at(text: &[u8], at: usize, limit: u32) -> Number
     requires { limit < 65536 }
     ensures { NumberIs text.now at limit result }

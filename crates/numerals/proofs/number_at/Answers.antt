@@ -1,5 +1,5 @@
 use native.Mathlib.Omega.{arith}
-use Rattle.numerals.proofs.Digits.{start, another, more, no_digit, leading_zero, whole_number}
+use Rattle.numerals.proofs.Digits.{start, another, more, no_digit}
 use borrow.Author.Rules.{rules}
 use Rattle.numerals.proofs.number_at.Goals as goal
 
@@ -26,18 +26,3 @@ pub overflow_add-at : goal.overflow_add-at
 overflow_add-at c =
     let inv = c.loop-digit.invariant in
     omega (arith, inv.within, inv.short (omega (arith, inv.within, c.if-end-at.false)))
-
-pub returns-then-end-at-2 : goal.returns-then-end-at-2
-returns-then-end-at-2 c =
-    leading_zero _ _ _ c.loop-digit.invariant c.loop-digit-test.false
-    c.digit_at-first.ensures c.if-first-eq0.true c.if-end-at.false c.if-end-at-2.true
-
-pub returns-else-end-at-2 : goal.returns-else-end-at-2
-returns-else-end-at-2 c =
-    whole_number _ _ _ c.loop-digit.invariant c.loop-digit-test.false
-    c.digit_at-first.ensures c.if-end-at.false (λ z. c.if-end-at-2.false)
-
-pub returns-else-first-eq0 : goal.returns-else-first-eq0
-returns-else-first-eq0 c =
-    whole_number _ _ _ c.loop-digit.invariant c.loop-digit-test.false
-    c.digit_at-first.ensures c.if-end-at.false (λ z. absurd (c.if-first-eq0.false z))
