@@ -1,16 +1,18 @@
 -- A call on two entries that the checks accept, and a call on one entry as a call on two.
-use mathlib.Core.Path.{◌≡◌, refl, ◌∙◌}
-use mathlib.Core.Bool.{Bool, true, false, ◌||◌}
+use mathlib.Core.Path.{◌≡◌, refl, sym, ap, ◌∙◌}
+use mathlib.Core.Bool.{Bool, true, false, ◌||◌, or-true}
 use mathlib.Core.List.{List}
 use Prim.Native.Nat.{ℕ, ◌<◌, ◌≤◌, max}
 use native.Mathlib.Nat.{le_refl, max-le, max-eq_left}
 use lib.Dec.{leb, ltb}
-use borrow.Author.Tests.{ltb-false, leb-false}
+use borrow.Author.Tests.{ltb-false, leb-false, lt-leb, le-leb}
 use Rattle.faults.specs.declared.Fault.TheVariants.{EntryNumber, Space}
-use Rattle.faults.specs.declared.Verdict.TheVariants.{Accepted}
+use Rattle.faults.specs.declared.Verdict.{Verdict}
+use Rattle.faults.specs.declared.Verdict.TheVariants.{Accepted, Refused}
 use Rattle.faults.proofs.Each.{both_accepted, not_refused, neither, then_then}
 use Rattle.table.specs.Entry.{entry_in, size}
 use Rattle.table.specs.Formulas.{depth_at}
+use Rattle.table.specs.Space.{table_work}
 use Rattle.table.specs.Check.{table_verdict}
 use Rattle.table.proofs.Shallow.{accepted_shallow}
 use Rattle.decision.specs.Call.{pair_work, pair_there, pair_verdict}
@@ -27,6 +29,17 @@ pair_met bytes a b words ok =
 
 pub pair_shallow : (bytes : List ℕ) (a b : ℕ) → table_verdict bytes ≡ Accepted → a < size bytes → b < size bytes → max (depth_at (entry_in bytes) a) (depth_at (entry_in bytes) b) ≤ 63
 pair_shallow bytes a b ok one other = max-le (accepted_shallow bytes ok a one) (accepted_shallow bytes ok b other)
+
+-- what the checks come to, by what they found of the table and of the entries
+module _ (bytes : List ℕ) (a b : ℕ) {found : Verdict} (is : found ≡ table_verdict bytes) (ok : found ≡ Accepted) where
+  pub second_outside : size bytes ≤ b → pair_there bytes a b ≡ Refused EntryNumber
+  second_outside past = simp (sym is ∙ ok, le-leb (size bytes) b past, or-true)
+
+  pub both_inside : a < size bytes → b < size bytes → pair_there bytes a b ≡ Accepted
+  both_inside one other = simp (sym is ∙ ok, lt-leb (size bytes) a one, lt-leb (size bytes) b other)
+
+pub work_is : (bytes : List ℕ) (a b : ℕ) {depth words : ℕ} → depth ≡ max (depth_at (entry_in bytes) a) (depth_at (entry_in bytes) b) → words ≡ table_work bytes depth → words ≡ pair_work bytes a b
+work_is bytes a b deep is = is ∙ ap (table_work bytes) deep
 
 either_same : (b : Bool) → b || b ≡ b
 either_same true = refl

@@ -40,6 +40,7 @@ pub fn pair_depth(table: &[u8], a: usize, b: usize) -> usize
 }
 
 // W for a call on two entries; or its first fault, whatever words it is lent.
+#[tactic(auto, using(crate::proofs::Pair::second_outside, crate::proofs::Pair::both_inside, crate::proofs::Pair::work_is))]
 pub fn words_for(table: &[u8], a: usize, b: usize) -> Needed
     ensures { NeededIs table.now a b result }
 {
