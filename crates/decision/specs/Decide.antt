@@ -3,7 +3,7 @@ use Rattle.std.specs.Prelude.{◌≡◌, List, ℕ, leb, ltb, length}
 use Rattle.faults.specs.declared.Fault.TheVariants.{EntryNumber, Space}
 use Rattle.faults.specs.declared.Verdict.{Verdict}
 use Rattle.faults.specs.declared.Verdict.TheVariants.{Accepted, Refused}
-use Rattle.faults.specs.Verdict.{number_of as faultNumber, refuse_if, and_then}
+use Rattle.faults.specs.Verdict.{number_of as fault_number, refuse_if, and_then}
 use Rattle.semantics.specs.Truth.{Satisfiable}
 use Rattle.table.specs.Entry.{entry_in, size}
 use Rattle.table.specs.Formulas.{formula_at, depth_at}
@@ -16,13 +16,13 @@ use Rattle.decision.specs.Call.{Cleared}
 abbrev pub number_of : Decision → ℕ
 number_of Decision.Possible = 1
 number_of Decision.Impossible = 0
-number_of (Decision.Refused f) = faultNumber f
+number_of (Decision.Refused f) = fault_number f
 
 -- the number that a call is refused with, 0 where it answers
 abbrev pub refusal : Decision → ℕ
 refusal Decision.Possible = 0
 refusal Decision.Impossible = 0
-refusal (Decision.Refused f) = faultNumber f
+refusal (Decision.Refused f) = fault_number f
 
 -- document 01's W for the decision of entry e
 abbrev pub entry_work : List ℕ → ℕ → ℕ

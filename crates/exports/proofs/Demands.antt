@@ -14,13 +14,13 @@ use Rattle.table.specs.Formulas.{formula_at}
 use Rattle.decision.specs.Call.{pair_verdict}
 use Rattle.decision.specs.Decide.{number_of as decided, decide_verdict}
 use Rattle.mark.specs.declared.Mark.{Mark}
-use Rattle.mark.specs.Mark.{MarkIs, number_of as markNumber, marking_number}
+use Rattle.mark.specs.Mark.{MarkIs, number_of as mark_number, marking_number}
 use Rattle.faults.specs.Verdict.{number_of}
 use Rattle.faults.proofs.Numbers.{no_fault}
 use Rattle.grammar.specs.Tree.{Tree}
 use Rattle.grammar.specs.Fits.{Fits}
 use Rattle.typed.specs.declared.Reading.{Reading}
-use Rattle.typed.specs.Reading.{NoTree, tree_verdict, ReadingIs, number_of as readingNumber, refusal as readingRefusal}
+use Rattle.typed.specs.Reading.{NoTree, tree_verdict, ReadingIs, number_of as reading_number, refusal as reading_refusal}
 use Rattle.hurnavis.proofs.Typed.{Means, text_11, text_refused, text_keeps, text_means}
 use Rattle.hurnavis.proofs.Demands.{Refuses, decision_refused, decision_possible, decision_impossible, mark_refused, mark_exactly}
 use Rattle.exports.specs.Status.{placed, DecisionTold, MarkTold, ReadingTold}
@@ -58,7 +58,7 @@ module _ (bytes : List ℕ) (model answer : ℕ) (before after : List ℕ) (plac
 
   -- without a fault the place holds the number of a mark exactly where that mark fits
   pub mark_told : pair_verdict bytes model answer (length before) ≡ Accepted → (m : Mark)
-      → (place' ≡ markNumber m) ↔ MarkIs (formula_at (entry_in bytes) model) (formula_at (entry_in bytes) answer) m
+      → (place' ≡ mark_number m) ↔ MarkIs (formula_at (entry_in bytes) model) (formula_at (entry_in bytes) answer) m
   mark_told ok m = rw (answered mark_status (marking_number told.0) place ok told.3) (mark_exactly bytes model answer before after told.0 told.1 ok m)
 
 module _ (text before after : List ℕ) (place place' status : ℕ) (told : ReadingTold text before after place place' status) where
@@ -72,13 +72,13 @@ module _ (text before after : List ℕ) (place place' status : ℕ) (told : Read
   -- a refusal leaves the bytes and the place as they were
   pub text_refusal_keeps : (f : Fault) → status ≡ number_of f → (after ≡ before) × (place' ≡ place)
   text_refusal_keeps f is =
-      (text_keeps text before after told.0 told.1 f (sym told.2 ∙ is), told.3 ∙ sym (kept f (readingNumber told.0) place is))
+      (text_keeps text before after told.0 told.1 f (sym told.2 ∙ is), told.3 ∙ sym (kept f (reading_number told.0) place is))
 
   -- without a fault the place holds the number of entries, and the table means what the grammar reads
   pub text_told : (t : Tree) → Fits text t → tree_verdict text t (length before) ≡ Accepted → Means t place' before after
   text_told t fits ok = means told.0 told.1 told.2 told.3
     where
-      means : (r : Reading) → ReadingIs text before after r → status ≡ readingRefusal r → place' ≡ placed status (readingNumber r) place → Means t place' before after
+      means : (r : Reading) → ReadingIs text before after r → status ≡ reading_refusal r → place' ≡ placed status (reading_number r) place → Means t place' before after
       means (Reading.Entries n) is told-status told-place =
           let answer : place' ≡ n = rw told-status at told-place in
           rw answer (text_means text before after n is t fits)

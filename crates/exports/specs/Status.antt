@@ -2,11 +2,11 @@
 -- lends, which a refusal leaves as it was.
 use Rattle.std.specs.Prelude.{◌≡◌, List, ℕ, zero, suc}
 use Rattle.decision.specs.declared.Decision.{Decision}
-use Rattle.decision.specs.Decide.{DecisionIs, number_of as decided, refusal as decisionRefusal}
+use Rattle.decision.specs.Decide.{DecisionIs, number_of as decided, refusal as decision_refusal}
 use Rattle.mark.specs.declared.Marking.{Marking}
-use Rattle.mark.specs.Mark.{MarkingIs, marking_number, refusal as markRefusal}
+use Rattle.mark.specs.Mark.{MarkingIs, marking_number, refusal as mark_refusal}
 use Rattle.typed.specs.declared.Reading.{Reading}
-use Rattle.typed.specs.Reading.{ReadingIs, number_of as readingNumber, refusal as readingRefusal}
+use Rattle.typed.specs.Reading.{ReadingIs, number_of as reading_number, refusal as reading_refusal}
 
 -- the number at the lent place after a call with this status: its answer's, or the one that was there
 abbrev pub placed : (status answer before : ℕ) → ℕ
@@ -16,14 +16,14 @@ placed (suc refusal) answer before = before
 -- The status and the lent place tell what the decision call answers; the words are as it leaves them.
 abbrev pub DecisionTold : List ℕ → ℕ → (before after : List ℕ) → (place place' : ℕ) → ℕ → Type 0
 DecisionTold bytes e before after place place' status =
-    (r : Decision) × DecisionIs bytes e before after r × (status ≡ decisionRefusal r) × (place' ≡ placed status (decided r) place)
+    (r : Decision) × DecisionIs bytes e before after r × (status ≡ decision_refusal r) × (place' ≡ placed status (decided r) place)
 
 -- the same of the mark call
 abbrev pub MarkTold : List ℕ → (model answer : ℕ) → (before after : List ℕ) → (place place' : ℕ) → ℕ → Type 0
 MarkTold bytes model answer before after place place' status =
-    (r : Marking) × MarkingIs bytes model answer before after r × (status ≡ markRefusal r) × (place' ≡ placed status (marking_number r) place)
+    (r : Marking) × MarkingIs bytes model answer before after r × (status ≡ mark_refusal r) × (place' ≡ placed status (marking_number r) place)
 
 -- the same of a typed answer; the bytes are as the call leaves them
 abbrev pub ReadingTold : (text before after : List ℕ) → (place place' : ℕ) → ℕ → Type 0
 ReadingTold text before after place place' status =
-    (r : Reading) × ReadingIs text before after r × (status ≡ readingRefusal r) × (place' ≡ placed status (readingNumber r) place)
+    (r : Reading) × ReadingIs text before after r × (status ≡ reading_refusal r) × (place' ≡ placed status (reading_number r) place)

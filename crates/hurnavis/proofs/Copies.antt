@@ -30,7 +30,7 @@ use Rattle.decision.specs.Decide.{number_of as decided, decide_verdict, Decision
 use Rattle.decision.specs.Call.{pair_verdict}
 use Rattle.mark.specs.declared.Mark.{Mark}
 use Rattle.mark.specs.declared.Marking.{Marking}
-use Rattle.mark.specs.Mark.{number_of as markNumber, marking_number, MarkingIs}
+use Rattle.mark.specs.Mark.{number_of as mark_number, marking_number, MarkingIs}
 use Rattle.mark.specs.Plain.{PlainMarkIs}
 use Rattle.mark.proofs.Plain.{plain_mark}
 use Rattle.hurnavis.proofs.Demands.{decision_possible, mark_exactly}
@@ -73,5 +73,5 @@ decision_plain bytes e before after r is ok = Iff.trans (decision_possible bytes
 -- It answers the number of a mark exactly when that mark fits by structures without copies.
 pub mark_plain : (bytes : List ℕ) (model answer : ℕ) (before after : List ℕ) (r : Marking) → MarkingIs bytes model answer before after r
     → pair_verdict bytes model answer (length before) ≡ Accepted
-    → (m : Mark) → (marking_number r ≡ markNumber m) ↔ PlainMarkIs (formula_at (entry_in bytes) model) (formula_at (entry_in bytes) answer) m
+    → (m : Mark) → (marking_number r ≡ mark_number m) ↔ PlainMarkIs (formula_at (entry_in bytes) model) (formula_at (entry_in bytes) answer) m
 mark_plain bytes model answer before after r is ok m = Iff.trans (mark_exactly bytes model answer before after r is ok m) (plain_mark _ _ m)

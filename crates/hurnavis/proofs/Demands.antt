@@ -25,11 +25,11 @@ use Rattle.structure.specs.Read.{structure_of}
 use Rattle.truth_table.specs.Board.{board_verdict, Filled, BoardAfter}
 use Rattle.decision.specs.declared.Decision.{Decision}
 use Rattle.decision.specs.declared.call.Needed.{Needed}
-use Rattle.decision.specs.Call.{pair_there, pair_verdict, NeededIs, refusal as wordsRefusal}
-use Rattle.decision.specs.Decide.{number_of as decided, refusal as decisionRefusal, decide_verdict, DecisionIs}
+use Rattle.decision.specs.Call.{pair_there, pair_verdict, NeededIs, refusal as words_refusal}
+use Rattle.decision.specs.Decide.{number_of as decided, refusal as decision_refusal, decide_verdict, DecisionIs}
 use Rattle.mark.specs.declared.Mark.{Mark}
 use Rattle.mark.specs.declared.Marking.{Marking}
-use Rattle.mark.specs.Mark.{Same, Inside, Beyond, MarkIs, number_of as markNumber, marking_number, refusal as markRefusal, MarkingIs}
+use Rattle.mark.specs.Mark.{Same, Inside, Beyond, MarkIs, number_of as mark_number, marking_number, refusal as mark_refusal, MarkingIs}
 use Rattle.mark.proofs.Exactly.{mark_unique, same_mark}
 
 -- Demand 1. A call is refused with a number; 0 says that it answers.
@@ -73,7 +73,7 @@ module _ (bytes packed before after : List ℕ) (r : Verdict) (is : r ≡ board_
 
 -- Demand 1, of the words that a call needs.
 module _ (bytes : List ℕ) (model answer : ℕ) where
-  pub words_refused : (r : Needed) → NeededIs bytes model answer r → Refuses (pair_there bytes model answer) (wordsRefusal r)
+  pub words_refused : (r : Needed) → NeededIs bytes model answer r → Refuses (pair_there bytes model answer) (words_refusal r)
   words_refused (Needed.Words w) is = rw is.0 (first_fault Accepted)
   words_refused (Needed.Refused g) is = rw is (first_fault (Refused g))
 
@@ -83,7 +83,7 @@ module _ (bytes : List ℕ) (model answer : ℕ) where
 
 -- Demands 1 and 3, of the decision.
 module _ (bytes : List ℕ) (e : ℕ) (before after : List ℕ) where
-  pub decision_refused : (r : Decision) → DecisionIs bytes e before after r → Refuses (decide_verdict bytes e (length before)) (decisionRefusal r)
+  pub decision_refused : (r : Decision) → DecisionIs bytes e before after r → Refuses (decide_verdict bytes e (length before)) (decision_refusal r)
   decision_refused Decision.Possible is = rw is.0 (first_fault Accepted)
   decision_refused Decision.Impossible is = rw is.0 (first_fault Accepted)
   decision_refused (Decision.Refused g) is = rw is.0 (first_fault (Refused g))
@@ -120,7 +120,7 @@ where_so so exactly = (λ p. let (q, a, b) = exactly.0 p in (a, b), λ both. exa
 
 -- Demands 1 and 3, of the mark.
 module _ (bytes : List ℕ) (model answer : ℕ) (before after : List ℕ) where
-  pub mark_refused : (r : Marking) → MarkingIs bytes model answer before after r → Refuses (pair_verdict bytes model answer (length before)) (markRefusal r)
+  pub mark_refused : (r : Marking) → MarkingIs bytes model answer before after r → Refuses (pair_verdict bytes model answer (length before)) (mark_refusal r)
   mark_refused (Marking.Marked m) is = rw is.0 (first_fault Accepted)
   mark_refused (Marking.Refused g) is = rw is.0 (first_fault (Refused g))
 
@@ -130,9 +130,9 @@ module _ (bytes : List ℕ) (model answer : ℕ) (before after : List ℕ) where
 
   -- a call without a fault answers the number of a mark exactly when that mark fits
   pub mark_exactly : (r : Marking) → MarkingIs bytes model answer before after r → pair_verdict bytes model answer (length before) ≡ Accepted
-      → (m : Mark) → (marking_number r ≡ markNumber m) ↔ MarkIs (formula_at (entry_in bytes) model) (formula_at (entry_in bytes) answer) m
+      → (m : Mark) → (marking_number r ≡ mark_number m) ↔ MarkIs (formula_at (entry_in bytes) model) (formula_at (entry_in bytes) answer) m
   mark_exactly (Marking.Marked n) is ok m =
-      (λ same. let one = same_mark n m same in rw one at is.1, λ fits. ap markNumber (mark_unique _ _ n m is.1 fits))
+      (λ same. let one = same_mark n m same in rw one at is.1, λ fits. ap mark_number (mark_unique _ _ n m is.1 fits))
   mark_exactly (Marking.Refused g) is ok m = absurd (accepted_refused (sym ok ∙ is.0))
 
   -- Document 02, P2. It answers 4 exactly when the answer is impossible.

@@ -21,7 +21,7 @@ use Rattle.history.specs.Shown.{Shows}
 use Rattle.history.specs.Answered.{Answers}
 use Rattle.history.proofs.Tables.{table_words, table_accepted}
 use Rattle.draft_bytes.specs.declared.Tabled.{Tabled}
-use Rattle.draft_bytes.specs.Table.{TableIs, room_verdict, refusal as tableRefusal}
+use Rattle.draft_bytes.specs.Table.{TableIs, room_verdict, refusal as table_refusal}
 use Rattle.hurnavis.proofs.Demands.{Refuses}
 
 -- a step on a draft that a history gives: the number of the history's first fault, and 0 exactly where there is none
@@ -32,7 +32,7 @@ draft_refused shows step before after number is steps given =
 
 -- the table of a draft that a history gives is refused with 10 exactly where the bytes are too few
 pub table_refused : (draft : Draft) (before after : List ℕ) (r : Tabled) → TableIs draft before after r → (steps : List Step) → Shows draft (state steps)
-    → Refuses (room_verdict (state steps) (length before)) (tableRefusal r)
+    → Refuses (room_verdict (state steps) (length before)) (table_refusal r)
 table_refused draft before after r is steps given =
     rw (is.given steps given)
     (record { refused = refused_number (room_verdict (state steps) (length before)); answered = accepted_number (room_verdict (state steps) (length before)) })

@@ -25,7 +25,7 @@ use Rattle.grammar.specs.Fits.{Fits}
 use Rattle.grammar.proofs.Unique.{one_tree_fits}
 use Rattle.typed.specs.declared.Reading.{Reading}
 use Rattle.typed.specs.Written.{over_limit}
-use Rattle.typed.specs.Reading.{refusal as textRefusal, NoTree, tree_verdict, RefusedFor, ReadingIs}
+use Rattle.typed.specs.Reading.{refusal as text_refusal, NoTree, tree_verdict, RefusedFor, ReadingIs}
 use Rattle.typed.proofs.Progress.{within}
 use Rattle.hurnavis.proofs.Demands.{Refuses}
 
@@ -54,37 +54,37 @@ module _ (text before after : List ℕ) where
   refused_tree f (inr (s, fits-s, verdict)) t fits = rw (one_tree_fits text t s fits fits-s) verdict
 
   -- the number is that of the tree's verdict, or 11 where there is no tree
-  with_tree : (r : Reading) → ReadingIs text before after r → (t : Tree) → Fits text t → textRefusal r ≡ refusal (tree_verdict text t (length before))
+  with_tree : (r : Reading) → ReadingIs text before after r → (t : Tree) → Fits text t → text_refusal r ≡ refusal (tree_verdict text t (length before))
   with_tree (Reading.Entries n) is t fits =
       let accepted : tree_verdict text t (length before) ≡ Accepted = rw (one_tree_fits text t is.0 fits is.1) is.2 in
       sym (ap refusal accepted)
   with_tree (Reading.Refused f) is t fits = sym (ap refusal (refused_tree f is.0 t fits))
 
-  no_tree : (r : Reading) → ReadingIs text before after r → NoTree text → textRefusal r ≡ 11
+  no_tree : (r : Reading) → ReadingIs text before after r → NoTree text → text_refusal r ≡ 11
   no_tree (Reading.Entries n) is none = absurd (none is.0 is.1)
   no_tree (Reading.Refused f) (inl outside, kept) none = ap number_of outside.0
   no_tree (Reading.Refused f) (inr found, kept) none = absurd (none found.0 found.1)
 
-  some_tree : (r : Reading) → ReadingIs text before after r → (textRefusal r ≡ 11 → ⊥) → (t : Tree) × Fits text t
+  some_tree : (r : Reading) → ReadingIs text before after r → (text_refusal r ≡ 11 → ⊥) → (t : Tree) × Fits text t
   some_tree (Reading.Entries n) is other = (is.0, is.1)
   some_tree (Reading.Refused f) (inl outside, kept) other = absurd (other (ap number_of outside.0))
   some_tree (Reading.Refused f) (inr found, kept) other = (found.0, found.1)
 
-  keeps : (r : Reading) → ReadingIs text before after r → (f : Fault) → textRefusal r ≡ number_of f → after ≡ before
+  keeps : (r : Reading) → ReadingIs text before after r → (f : Fault) → text_refusal r ≡ number_of f → after ≡ before
   keeps (Reading.Entries n) is f refused = absurd (no_fault f (sym refused))
   keeps (Reading.Refused g) is f refused = is.1
 
   module _ (r : Reading) (is : ReadingIs text before after r) where
     -- 11 exactly when no tree fits the text
-    pub text_11 : (textRefusal r ≡ 11) ↔ NoTree text
+    pub text_11 : (text_refusal r ≡ 11) ↔ NoTree text
     text_11 = (λ number t fits. never_11 (over_limit text t) (short before t) (sym (with_tree r is t fits) ∙ number), no_tree r is)
 
     -- of a text with a tree, the number is that of the first of 12 and 10, and 0 exactly where there is no fault
-    pub text_refused : (t : Tree) → Fits text t → Refuses (tree_verdict text t (length before)) (textRefusal r)
+    pub text_refused : (t : Tree) → Fits text t → Refuses (tree_verdict text t (length before)) (text_refusal r)
     text_refused t fits = rw (with_tree r is t fits) (record { refused = refused_number _; answered = accepted_number _ })
 
     -- 12 exactly when a tree fits, and the text is over 1,024 bytes, has a number over 255 or makes over 64 entries
-    pub text_12 : (textRefusal r ≡ 12) ↔ ((t : Tree) × Fits text t × (over_limit text t ≡ true))
+    pub text_12 : (text_refusal r ≡ 12) ↔ ((t : Tree) × Fits text t × (over_limit text t ≡ true))
     text_12 = (
       λ number.
           let found = some_tree r is (λ other. omega (arith, number, other)) in
@@ -93,7 +93,7 @@ module _ (text before after : List ℕ) where
     )
 
     -- 10 exactly when a tree fits within the limits, and the lent bytes are fewer than 4 for each entry
-    pub text_10 : (textRefusal r ≡ 10) ↔ ((t : Tree) × Fits text t × (over_limit text t ≡ false) × (length before < 4 * size (formula t)))
+    pub text_10 : (text_refusal r ≡ 10) ↔ ((t : Tree) × Fits text t × (over_limit text t ≡ false) × (length before < 4 * size (formula t)))
     text_10 = (
       λ number.
           let found = some_tree r is (λ other. omega (arith, number, other)) in
@@ -103,7 +103,7 @@ module _ (text before after : List ℕ) where
     )
 
     -- a refused call leaves the lent bytes as they were
-    pub text_keeps : (f : Fault) → textRefusal r ≡ number_of f → after ≡ before
+    pub text_keeps : (f : Fault) → text_refusal r ≡ number_of f → after ≡ before
     text_keeps = keeps r is
 
 -- What the table of a text means. Its first n entries are a table that is accepted, and the last of them means the tree's formula.

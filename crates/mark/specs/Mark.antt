@@ -2,7 +2,7 @@
 -- "Possible, and the mark", and document 02, P2: an answer that is not possible has a mark of its own.
 use Rattle.std.specs.Prelude.{◌≡◌, true, false, List, ℕ, ◌<◌, length}
 use Rattle.faults.specs.declared.Verdict.TheVariants.{Accepted, Refused}
-use Rattle.faults.specs.Verdict.{number_of as faultNumber}
+use Rattle.faults.specs.Verdict.{number_of as fault_number}
 use Rattle.semantics.specs.Formula.{Formula}
 use Rattle.semantics.specs.Structure.{Structure}
 use Rattle.semantics.specs.Truth.{truth, Satisfiable}
@@ -47,12 +47,12 @@ number_of Mark.Impossible = 4
 -- the number that a call returns: of the mark, or of the fault
 abbrev pub marking_number : Marking → ℕ
 marking_number (Marking.Marked mark) = number_of mark
-marking_number (Marking.Refused f) = faultNumber f
+marking_number (Marking.Refused f) = fault_number f
 
 -- the number that a call is refused with, 0 where it answers
 abbrev pub refusal : Marking → ℕ
 refusal (Marking.Marked mark) = 0
-refusal (Marking.Refused f) = faultNumber f
+refusal (Marking.Refused f) = fault_number f
 
 -- what a mark call answers for a model's and an answer's entry, and what the lent words are then
 abbrev pub MarkingIs : List ℕ → (model answer : ℕ) → (before after : List ℕ) → Marking → Type 0

@@ -1,8 +1,8 @@
 -- The line that the mark sheet prints, byte by byte in ASCII. Document 01, "The mark sheet".
 use Rattle.std.specs.Prelude.{◌≡◌, cond, List, [], ◌∷◌, ◌++◌, ℕ, ◌+◌, ◌/◌, ◌%◌, ◌≤◌, ltb, take}
 use Rattle.semantics.specs.Count.{bit}
-use Rattle.faults.specs.Verdict.{number_of as faultNumber}
-use Rattle.mark.specs.Mark.{number_of as markNumber}
+use Rattle.faults.specs.Verdict.{number_of as fault_number}
+use Rattle.mark.specs.Mark.{number_of as mark_number}
 use Rattle.sheet.specs.declared.Sheet.{Sheet}
 use Rattle.sheet.specs.declared.text.Line.{Line}
 
@@ -26,8 +26,8 @@ filled_text p q n =
     ++ (10 ∷ [])
 
 abbrev pub text_of : Sheet → List ℕ
-text_of (Sheet.Filled p q mark) = filled_text (bit p) (bit q) (markNumber mark)
-text_of (Sheet.Refused f) = refused_text (faultNumber f)
+text_of (Sheet.Filled p q mark) = filled_text (bit p) (bit q) (mark_number mark)
+text_of (Sheet.Refused f) = refused_text (fault_number f)
 
 -- the first bytes of the line, as many as its length says, are the text
 pub record Holds (text : List ℕ) (line : Line) : Type 0 where

@@ -5,7 +5,7 @@ use Rattle.faults.specs.declared.Fault.{Fault}
 use Rattle.faults.specs.declared.Fault.TheVariants.{Space, TextGrammar, TextLimit}
 use Rattle.faults.specs.declared.Verdict.{Verdict}
 use Rattle.faults.specs.declared.Verdict.TheVariants.{Accepted, Refused}
-use Rattle.faults.specs.Verdict.{number_of as faultNumber, refuse_if, and_then}
+use Rattle.faults.specs.Verdict.{number_of as fault_number, refuse_if, and_then}
 use Rattle.postorder.specs.Order.{size}
 use Rattle.grammar.specs.Tree.{Tree, formula}
 use Rattle.grammar.specs.Fits.{Fits}
@@ -15,12 +15,12 @@ use Rattle.typed.specs.Written.{over_limit, Written}
 -- the number that a call is refused with, 0 where it answers
 abbrev pub refusal : Reading → ℕ
 refusal (Reading.Entries n) = 0
-refusal (Reading.Refused f) = faultNumber f
+refusal (Reading.Refused f) = fault_number f
 
 -- the number of entries; of a refusal, the number of its fault
 abbrev pub number_of : Reading → ℕ
 number_of (Reading.Entries n) = n
-number_of (Reading.Refused f) = faultNumber f
+number_of (Reading.Refused f) = fault_number f
 
 -- the text is outside the grammar
 abbrev pub NoTree : List ℕ → Type 0

@@ -20,8 +20,8 @@ loop-j-init c =
     let few = tally_few a.words.now a.promised a.i a.slots start.requires.stack in
     (search rules, omega (arith, c.tally-sum.ensures, few), c.tally-sum.ensures)
 
-shared-le : (c : goal.After-share-sum) → c.share-sum.result ≤ 65536
-shared-le c =
+shared_le : (c : goal.After-share-sum) → c.share-sum.result ≤ 65536
+shared_le c =
     let a = c.args in
     let code = c.word_at-code.result in
     let copies = c.word_at-copies.result % 65536 in
@@ -31,7 +31,7 @@ pub loop-j-preserved : goal.loop-j-preserved
 unfolding filled total
 loop-j-preserved c =
     let shared = rw (c.word_at-code.ensures, c.word_at-copies.ensures) at c.share-sum.ensures in
-    (search rules, omega (arith, shared-le c), rw add-one (omega (arith, shared)))
+    (search rules, omega (arith, shared_le c), rw add-one (omega (arith, shared)))
 
 pub returns : goal.returns
 returns c =
@@ -39,4 +39,4 @@ returns c =
     rw e at c.loop-j.invariant.2
 
 pub overflow_add-sum : goal.overflow_add-sum
-overflow_add-sum c = omega (arith, shared-le c)
+overflow_add-sum c = omega (arith, shared_le c)

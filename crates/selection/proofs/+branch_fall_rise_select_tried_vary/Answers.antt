@@ -55,30 +55,30 @@ one_less : (m end j : ℕ) → 0 < m → m - 1 ≤ j → j < end → (j ≡ m - 
 one_less m end j pos more less = by_cases (ℕ_discrete j (m - 1)) (λ (is : j ≡ m - 1). inl is) (λ (not-it : ¬ (j ≡ m - 1)). inr (omega arith, less))
 
 -- the number that was tried gives none
-fall-passed : (t : ℕ) (c : goal.fall-Else-tried t)
+fall_passed : (t : ℕ) (c : goal.fall-Else-tried t)
     → (let a = c.args in
     Without (problem_of a.entries.now a.q) a.words.now a.at a.k a.slots (code a.b) (c.loop-m.m - 1) a.end c.tried.new.words)
-fall-passed t c =
+fall_passed t c =
     without_more c.requires c.loop-m.invariant.1 (c.tried.auto.words ∙ c.loop-m.invariant.1.same_length) (rw c.if-tried.false at c.tried.ensures)
     (λ j more less. one_less _ _ j c.loop-m-test.true more less)
 
 pub fall-spanned-requires : goal.fall-spanned-requires
 fall-spanned-requires t c =
     let a = c.args in
-    (selecting_relaxing a.entries.now a.q (without_varying c.requires (fall-passed t (goal.at.fall-spanned-requires t c).Else-tried) {m = 0} zero-le).selecting, omega arith, omega (arith, c.loop-m.invariant.0, c.requires.small))
+    (selecting_relaxing a.entries.now a.q (without_varying c.requires (fall_passed t (goal.at.fall-spanned-requires t c).Else-tried) {m = 0} zero-le).selecting, omega arith, omega (arith, c.loop-m.invariant.0, c.requires.small))
 
 pub fall-shape_of-words-then-spanned : goal.fall-shape_of-words-then-spanned
-fall-shape_of-words-then-spanned t c = (fall-passed t (goal.at.fall-shape_of-words-then-spanned t c).Else-tried).same_length
+fall-shape_of-words-then-spanned t c = (fall_passed t (goal.at.fall-shape_of-words-then-spanned t c).Else-tried).same_length
 
 -- the numbers up to one, and from it on
 up_to_or_from : (m end j : ℕ) → j < end → ((0 ≤ j) × (j < suc m)) ⊎ ((m ≤ j) × (j < end))
 up_to_or_from m end j less = by_cases (dec_le m j) (λ (more : m ≤ j). inr (more, less)) (λ (not_more : ¬ (m ≤ j)). inl (zero-le, omega arith))
 
 pub fall-returns-then-spanned : goal.fall-returns-then-spanned
-fall-returns-then-spanned t c = varied_spanned c.requires (fall-passed t (goal.at.fall-returns-then-spanned t c).Else-tried) (c.spanned.ensures c.if-spanned.true) (λ j more less. up_to_or_from _ _ j less)
+fall-returns-then-spanned t c = varied_spanned c.requires (fall_passed t (goal.at.fall-returns-then-spanned t c).Else-tried) (c.spanned.ensures c.if-spanned.true) (λ j more less. up_to_or_from _ _ j less)
 
 pub fall-loop-m-preserved : goal.fall-loop-m-preserved
-fall-loop-m-preserved t c = (omega (arith, c.loop-m.invariant.0), fall-passed t (goal.at.fall-loop-m-preserved t c).Else-tried)
+fall-loop-m-preserved t c = (omega (arith, c.loop-m.invariant.0), fall_passed t (goal.at.fall-loop-m-preserved t c).Else-tried)
 
 pub fall-shape_of-words : goal.fall-shape_of-words
 fall-shape_of-words t c = c.loop-m.invariant.1.same_length
@@ -106,30 +106,30 @@ one_more : (start m j : ℕ) → start ≤ j → j < m + 1 → (j ≡ m) ⊎ ((s
 one_more start m j more less = by_cases (ℕ_discrete j m) (λ (is : j ≡ m). inl is) (λ (not-it : ¬ (j ≡ m)). inr (more, omega arith))
 
 -- the number that was tried gives none
-rise-passed : (t : ℕ) (c : goal.rise-Else-tried t)
+rise_passed : (t : ℕ) (c : goal.rise-Else-tried t)
     → (let a = c.args in
     Without (problem_of a.entries.now a.q) a.words.now a.at a.k a.slots (code a.b) a.start (c.loop-m.m + 1) c.tried.new.words)
-rise-passed t c =
+rise_passed t c =
     without_more c.requires c.loop-m.invariant.1 (c.tried.auto.words ∙ c.loop-m.invariant.1.same_length) (rw c.if-tried.false at c.tried.ensures)
     (λ j more less. one_more _ _ j more less)
 
 pub rise-spanned-requires : goal.rise-spanned-requires
 rise-spanned-requires t c =
     let a = c.args in
-    (selecting_relaxing a.entries.now a.q (without_varying c.requires (rise-passed t (goal.at.rise-spanned-requires t c).Else-tried) {m = 0} zero-le).selecting, omega (arith, c.loop-m-test.true, c.requires.small), c.requires.small)
+    (selecting_relaxing a.entries.now a.q (without_varying c.requires (rise_passed t (goal.at.rise-spanned-requires t c).Else-tried) {m = 0} zero-le).selecting, omega (arith, c.loop-m-test.true, c.requires.small), c.requires.small)
 
 pub rise-shape_of-words-then-spanned : goal.rise-shape_of-words-then-spanned
-rise-shape_of-words-then-spanned t c = (rise-passed t (goal.at.rise-shape_of-words-then-spanned t c).Else-tried).same_length
+rise-shape_of-words-then-spanned t c = (rise_passed t (goal.at.rise-shape_of-words-then-spanned t c).Else-tried).same_length
 
 -- the numbers from one on, and up to it
 from_or_up_to : (start m most j : ℕ) → start ≤ j → j < suc most → ((m ≤ j) × (j < suc most)) ⊎ ((start ≤ j) × (j < m + 1))
 from_or_up_to start m most j more less = by_cases (dec_le m j) (λ (from : m ≤ j). inl (from, less)) (λ (not-from : ¬ (m ≤ j)). inr (more, omega arith))
 
 pub rise-returns-then-spanned : goal.rise-returns-then-spanned
-rise-returns-then-spanned t c = varied_spanned c.requires (rise-passed t (goal.at.rise-returns-then-spanned t c).Else-tried) (c.spanned.ensures c.if-spanned.true) (λ j more less. from_or_up_to _ _ _ j more less)
+rise-returns-then-spanned t c = varied_spanned c.requires (rise_passed t (goal.at.rise-returns-then-spanned t c).Else-tried) (c.spanned.ensures c.if-spanned.true) (λ j more less. from_or_up_to _ _ _ j more less)
 
 pub rise-loop-m-preserved : goal.rise-loop-m-preserved
-rise-loop-m-preserved t c = (omega (arith, c.loop-m.invariant.0), rise-passed t (goal.at.rise-loop-m-preserved t c).Else-tried)
+rise-loop-m-preserved t c = (omega (arith, c.loop-m.invariant.0), rise_passed t (goal.at.rise-loop-m-preserved t c).Else-tried)
 
 pub rise-shape_of-words : goal.rise-shape_of-words
 rise-shape_of-words t c = c.loop-m.invariant.1.same_length

@@ -13,8 +13,8 @@ pub loop-j-init : goal.loop-j-init
 unfolding slots_of total
 loop-j-init c = (search rules, search rules, refl)
 
-share-le : (c : goal.After-share-sum) → c.share-sum.result ≤ 4096
-share-le c =
+share_le : (c : goal.After-share-sum) → c.share-sum.result ≤ 4096
+share_le c =
     let start = c.before.before.before.before.before.before in
     let a = start.args in
     let j = c.loop-j.j in
@@ -31,7 +31,7 @@ pub loop-j-preserved : goal.loop-j-preserved
 unfolding slots_of total
 loop-j-preserved c =
     let shared = rw (c.word_at-code.ensures, c.word_at-copies.ensures) at c.share-sum.ensures in
-    (search rules, omega (arith, share-le c), rw add-one (omega (arith, shared)))
+    (search rules, omega (arith, share_le c), rw add-one (omega (arith, shared)))
 
 pub returns : goal.returns
 returns c =
@@ -39,4 +39,4 @@ returns c =
     rw e at c.loop-j.invariant.2
 
 pub overflow_add-sum : goal.overflow_add-sum
-overflow_add-sum c = omega (arith, share-le c)
+overflow_add-sum c = omega (arith, share_le c)

@@ -28,9 +28,9 @@ pub slice_bounds-solved-end-2 : goal.slice_bounds-solved-end-2
 slice_bounds-solved-end-2 c = let a = c.args in sym (length-take-le ((a.depth + 1) * a.level) a.work.now (slice_bounds-solved-end (goal.at.slice_bounds-solved-end-2 c).After-place-at))
 
 -- the list, as it is lent
-lent-list : (c : goal.After-place-at) → list_of (length c.args.entries.now) c.args.level (take ((c.args.depth + 1) * c.args.level) c.args.work.now) c.args.k
+lent_list : (c : goal.After-place-at) → list_of (length c.args.entries.now) c.args.level (take ((c.args.depth + 1) * c.args.level) c.args.work.now) c.args.k
     ≡ list_of (length c.args.entries.now) c.args.level c.args.work.now c.args.k
-lent-list c =
+lent_list c =
     let a = c.args in
     let asked = c.requires in
     list_lent (length a.entries.now) a.k a.level ((a.depth + 1) * a.level) a.work.now asked.lists.some (omega (arith, asked.room.stack)) (omega (arith, same_place a.depth a.level, suc-mul a.depth a.level))
@@ -45,7 +45,7 @@ solved-requires c =
         room = rw c.place-at.ensures (omega (arith, asked.room.stack));
         inside = rw (c.place-at.ensures, ← (slice_bounds-solved-end-2 c)) (omega (arith, asked.lists.some));
       };
-      fit = rw (c.place-at.ensures, lent-list (goal.at.solved-requires c).After-place-at) asked.lists.fit;
+      fit = rw (c.place-at.ensures, lent_list (goal.at.solved-requires c).After-place-at) asked.lists.fit;
     }
 
 pub shape_of-work : goal.shape_of-work
@@ -54,6 +54,6 @@ shape_of-work c = let a = c.args in length_front a.work.now c.solved.new.words (
 pub returns : goal.returns
 returns c =
     let a = c.args in (
-      rw (c.place-at.ensures, lent-list (goal.at.returns c).After-place-at) at c.solved.ensures,
+      rw (c.place-at.ensures, lent_list (goal.at.returns c).After-place-at) at c.solved.ensures,
       memory_levels (wide_in a.entries.now) a.work.now c.solved.new.words a.depth a.level (c.solved.auto.words ∙ sym (slice_bounds-solved-end-2 (goal.at.returns c).After-solved-arg-1)) c.requires.memory,
     )

@@ -56,99 +56,99 @@ world-returns-in_default t c =
     (λ sat. let at = c.loop-u.invariant.0.forth sat in (rw c.in_default.is at c.force.ensures) at.structure at.world at.inside at.meets, c.loop-u.invariant.2)
 
 -- what is left, with what follows of it
-left-forced : (t : ℕ) (c : goal.world-In-Settled t)
+left_forced : (t : ℕ) (c : goal.world-In-Settled t)
     → Remaining (wide_in c.args.entries.now) (length c.args.entries.now) c.args.depth c.args.bound c.args.w c.in-Settled.u c.loop-u.top
-left-forced t c = remaining_forced c.loop-u.invariant.0 (c.in-Settled.ensures)
+left_forced t c = remaining_forced c.loop-u.invariant.0 (c.in-Settled.ensures)
 
-relations-asked : (t : ℕ) (c : goal.world-In-Settled t)
+relations_asked : (t : ℕ) (c : goal.world-In-Settled t)
     → CountAsked (wide_in c.args.entries.now) (length c.args.entries.now) c.in-Settled.u c.args.depth c.args.level c.loop-u.work
-relations-asked t c =
+relations_asked t c =
     let asked = c.requires in
     let inv = c.loop-u.invariant in
-    record { ready = ready_wider (left-forced t c).ready (omega (arith, (left-forced t c).small, asked.small)); room = room_kept inv.1 asked.room; memory = inv.2 }
+    record { ready = ready_wider (left_forced t c).ready (omega (arith, (left_forced t c).small, asked.small)); room = room_kept inv.1 asked.room; memory = inv.2 }
 
 pub world-leaf-requires : goal.world-leaf-requires
 world-leaf-requires t c =
-    (omega (arith, c.decreases), record { count = relations-asked t (goal.at.world-leaf-requires t c).In-Settled; none = rw c.in_default-highest.is at c.highest.ensures })
+    (omega (arith, c.decreases), record { count = relations_asked t (goal.at.world-leaf-requires t c).In-Settled; none = rw c.in_default-highest.is at c.highest.ensures })
 
 pub world-shape_of-work-in_default-highest : goal.world-shape_of-work-in_default-highest
 world-shape_of-work-in_default-highest t c = c.leaf.auto.work ∙ c.loop-u.invariant.1
 
 pub world-returns-in_default-highest : goal.world-returns-in_default-highest
-world-returns-in_default-highest t c = (remaining_answer (left-forced t (goal.at.world-returns-in_default-highest t c).In-Settled) c.leaf.result c.leaf.ensures.0, c.leaf.ensures.1)
+world-returns-in_default-highest t c = (remaining_answer (left_forced t (goal.at.world-returns-in_default-highest t c).In-Settled) c.leaf.result c.leaf.ensures.0, c.leaf.ensures.1)
 
 -- the entry to split
-top-pending : (t : ℕ) (c : goal.world-In-At t) → Greatest (member c.in-Settled.u.pending) c.in-At.d
-top-pending t c = c.in-At.ensures
+top_pending : (t : ℕ) (c : goal.world-In-At t) → Greatest (member c.in-Settled.u.pending) c.in-At.d
+top_pending t c = c.in-At.ensures
 
 pub world-all_met-requires : goal.world-all_met-requires
-world-all_met-requires t c = (omega (arith, c.decreases), relations-asked t (goal.at.world-all_met-requires t c).In-Settled)
+world-all_met-requires t c = (omega (arith, c.decreases), relations_asked t (goal.at.world-all_met-requires t c).In-Settled)
 
 pub world-shape_of-work-then-not-all_met : goal.world-shape_of-work-then-not-all_met
 world-shape_of-work-then-not-all_met t c = c.all_met.auto.work ∙ c.loop-u.invariant.1
 
 pub world-returns-then-not-all_met : goal.world-returns-then-not-all_met
-world-returns-then-not-all_met t c = (remaining_answer (left-forced t (goal.at.world-returns-then-not-all_met t c).In-Settled) false (rw c.if-not-all_met.true at c.all_met.ensures.0), c.all_met.ensures.1)
+world-returns-then-not-all_met t c = (remaining_answer (left_forced t (goal.at.world-returns-then-not-all_met t c).In-Settled) false (rw c.if-not-all_met.true at c.all_met.ensures.0), c.all_met.ensures.1)
 
 -- the words where the relations were asked, and where they were not
-words-asked : (t : ℕ) (c : goal.world-Joined-top-eq-ALL t)
+words_asked : (t : ℕ) (c : goal.world-Joined-top-eq-ALL t)
     → (length c.if-top-eq-ALL.work ≡ length c.args.work.now) × Remembers (wide_in c.args.entries.now) c.args.depth c.args.level c.if-top-eq-ALL.work
-words-asked t c =
+words_asked t c =
     elim c.if-top-eq-ALL.branch [
       | world-then-top-eq-ALL+else-not-all_met w ↦ rw w.work-is (w.all_met.auto.work ∙ c.loop-u.invariant.1, w.all_met.ensures.1)
       | world-else-top-eq-ALL w ↦ rw w.work-is (c.loop-u.invariant.1, c.loop-u.invariant.2)
     ]
 
 pub world-branch-one-requires : goal.world-branch-one-requires
-world-branch-one-requires t c = ((relations-asked t (goal.at.world-branch-one-requires t c).In-Settled).ready, top-pending t (goal.at.world-branch-one-requires t c).In-At)
+world-branch-one-requires t c = ((relations_asked t (goal.at.world-branch-one-requires t c).In-Settled).ready, top_pending t (goal.at.world-branch-one-requires t c).In-At)
 
-case-one : (t : ℕ) (c : goal.world-In_Settled-one t)
+case_one : (t : ℕ) (c : goal.world-In_Settled-one t)
     → Branch (wide_in c.args.entries.now) (length c.args.entries.now) true c.in-At.d c.in-Settled.u c.args.depth c.in_Settled-one.one
-case-one t c = rw c.in_Settled-one.is at c.branch-one.ensures
+case_one t c = rw c.in_Settled-one.is at c.branch-one.ensures
 
 pub world-world-requires : goal.world-world-requires
 world-world-requires t c =
     let asked = c.requires in
-    let left = left-forced t (goal.at.world-world-requires t c).In-Settled in
-    let words = words-asked t (goal.at.world-world-requires t c).Joined-top-eq-ALL in
-    let below = split_below left asked.small (top-pending t (goal.at.world-world-requires t c).In-At) in (
+    let left = left_forced t (goal.at.world-world-requires t c).In-Settled in
+    let words = words_asked t (goal.at.world-world-requires t c).Joined-top-eq-ALL in
+    let below = split_below left asked.small (top_pending t (goal.at.world-world-requires t c).In-At) in (
       omega (arith, c.decreases, left.small, below),
-      record { ready = (case-one t (goal.at.world-world-requires t c).In_Settled-one).ready; small = omega (arith, below, left.small, asked.small); room = room_kept words.0 asked.room; memory = words.1 },
+      record { ready = (case_one t (goal.at.world-world-requires t c).In_Settled-one).ready; small = omega (arith, below, left.small, asked.small); room = room_kept words.0 asked.room; memory = words.1 },
     )
 
 pub world-shape_of-work-then-world : goal.world-shape_of-work-then-world
-world-shape_of-work-then-world t c = c.world.auto.work ∙ (words-asked t (goal.at.world-shape_of-work-then-world t c).Joined-top-eq-ALL).0
+world-shape_of-work-then-world t c = c.world.auto.work ∙ (words_asked t (goal.at.world-shape_of-work-then-world t c).Joined-top-eq-ALL).0
 
 pub world-returns-then-world : goal.world-returns-then-world
-world-returns-then-world t c = ((left-forced t (goal.at.world-returns-then-world t c).In-Settled).back ((case-one t (goal.at.world-returns-then-world t c).In_Settled-one).sound (rw c.if-world.true at c.world.ensures.0)), c.world.ensures.1)
+world-returns-then-world t c = ((left_forced t (goal.at.world-returns-then-world t c).In-Settled).back ((case_one t (goal.at.world-returns-then-world t c).In_Settled-one).sound (rw c.if-world.true at c.world.ensures.0)), c.world.ensures.1)
 
 -- the first case fails, whether it was looked into or clashed at once
-case-failed : (t : ℕ) (c : goal.world-Joined-branch t)
+case_failed : (t : ℕ) (c : goal.world-Joined-branch t)
     → (length c.if-top-eq-ALL.work ≡ length c.args.work.now) × Remembers (wide_in c.args.entries.now) c.args.depth c.args.level c.if-top-eq-ALL.work
     → Fails (wide_in c.args.entries.now) c.in-Settled.u c.in-At.d true × (length c.match-branch.work ≡ length c.args.work.now) × Remembers (wide_in c.args.entries.now) c.args.depth c.args.level c.match-branch.work
-case-failed t c words =
+case_failed t c words =
     elim c.match-branch.branch [
       | world-in_Settled-one+else-world w ↦ rw w.work-is (case_fails true w.in_Settled-one.ensures (rw w.if-world.false at w.world.ensures.0), w.world.auto.work ∙ words.0, w.world.ensures.1)
       | world-in_default-one w ↦ rw w.work-is (λ s u inside. w.in_default-one.ensures s u, words.0, words.1)
     ]
 
 pub world-branch-two-requires : goal.world-branch-two-requires
-world-branch-two-requires t c = ((relations-asked t (goal.at.world-branch-two-requires t c).In-Settled).ready, top-pending t (goal.at.world-branch-two-requires t c).In-At)
+world-branch-two-requires t c = ((relations_asked t (goal.at.world-branch-two-requires t c).In-Settled).ready, top_pending t (goal.at.world-branch-two-requires t c).In-At)
 
 pub world-shape_of-work-in_default-two : goal.world-shape_of-work-in_default-two
-world-shape_of-work-in_default-two t c = (case-failed t (goal.at.world-shape_of-work-in_default-two t c).Joined-branch (words-asked t (goal.at.world-shape_of-work-in_default-two t c).Joined-top-eq-ALL)).1
+world-shape_of-work-in_default-two t c = (case_failed t (goal.at.world-shape_of-work-in_default-two t c).Joined-branch (words_asked t (goal.at.world-shape_of-work-in_default-two t c).Joined-top-eq-ALL)).1
 
 pub world-returns-in_default-two : goal.world-returns-in_default-two
 world-returns-in_default-two t c =
-    (remaining_none (left-forced t (goal.at.world-returns-in_default-two t c).In-Settled) c.requires.small (top-pending t (goal.at.world-returns-in_default-two t c).In-At) (case-failed t (goal.at.world-returns-in_default-two t c).Joined-branch (words-asked t (goal.at.world-returns-in_default-two t c).Joined-top-eq-ALL)).0 (λ s u inside. (rw c.in_default-two.is at c.branch-two.ensures) s u), (case-failed t (goal.at.world-returns-in_default-two t c).Joined-branch (words-asked t (goal.at.world-returns-in_default-two t c).Joined-top-eq-ALL)).2)
+    (remaining_none (left_forced t (goal.at.world-returns-in_default-two t c).In-Settled) c.requires.small (top_pending t (goal.at.world-returns-in_default-two t c).In-At) (case_failed t (goal.at.world-returns-in_default-two t c).Joined-branch (words_asked t (goal.at.world-returns-in_default-two t c).Joined-top-eq-ALL)).0 (λ s u inside. (rw c.in_default-two.is at c.branch-two.ensures) s u), (case_failed t (goal.at.world-returns-in_default-two t c).Joined-branch (words_asked t (goal.at.world-returns-in_default-two t c).Joined-top-eq-ALL)).2)
 
 pub world-loop-u-smaller : goal.world-loop-u-smaller
-world-loop-u-smaller t c = split_below (left-forced t (goal.at.world-loop-u-smaller t c).In-Settled) c.requires.small (top-pending t (goal.at.world-loop-u-smaller t c).In-At)
+world-loop-u-smaller t c = split_below (left_forced t (goal.at.world-loop-u-smaller t c).In-Settled) c.requires.small (top_pending t (goal.at.world-loop-u-smaller t c).In-At)
 
 pub world-loop-u-preserved : goal.world-loop-u-preserved
 world-loop-u-preserved t c =
-    let failed = case-failed t (goal.at.world-loop-u-preserved t c).Joined-branch (words-asked t (goal.at.world-loop-u-preserved t c).Joined-top-eq-ALL) in
-    (remaining_second (left-forced t (goal.at.world-loop-u-preserved t c).In-Settled) c.requires.small (top-pending t (goal.at.world-loop-u-preserved t c).In-At) failed.0 (rw c.in_Settled-two.is at c.branch-two.ensures), failed.1, failed.2)
+    let failed = case_failed t (goal.at.world-loop-u-preserved t c).Joined-branch (words_asked t (goal.at.world-loop-u-preserved t c).Joined-top-eq-ALL) in
+    (remaining_second (left_forced t (goal.at.world-loop-u-preserved t c).In-Settled) c.requires.small (top_pending t (goal.at.world-loop-u-preserved t c).In-At) failed.0 (rw c.in_Settled-two.is at c.branch-two.ensures), failed.1, failed.2)
 
 pub world-force-requires : goal.world-force-requires
 world-force-requires t c = search (rules, room_kept)
@@ -156,9 +156,9 @@ world-force-requires t c = search (rules, room_kept)
 -- ---- leaf
 
 -- the world that is found
-leaf-found : (t : ℕ) (c : goal.leaf-Else-not-all_met t)
+leaf_found : (t : ℕ) (c : goal.leaf-Else-not-all_met t)
     → SatW (wide_in c.args.entries.now) c.args.w
-leaf-found t c =
+leaf_found t c =
     let asked = c.requires in
     solved_world _ _ (ready_leaf asked.count.ready asked.none) true (rw c.if-not-all_met.false at c.all_met.ensures.0)
 
@@ -166,10 +166,10 @@ pub leaf-returns-then-not-all_met : goal.leaf-returns-then-not-all_met
 leaf-returns-then-not-all_met t c = (rw c.if-not-all_met.true at c.all_met.ensures.0, c.all_met.ensures.1)
 
 pub leaf-returns : goal.leaf-returns
-leaf-returns t c = (leaf-found t (goal.at.leaf-returns t c).Else-not-all_met, c.learn_world.ensures)
+leaf-returns t c = (leaf_found t (goal.at.leaf-returns t c).Else-not-all_met, c.learn_world.ensures)
 
 pub leaf-learn_world-requires : goal.leaf-learn_world-requires
-leaf-learn_world-requires t c = search (rules, room_kept, leaf-found t (goal.at.leaf-learn_world-requires t c).Else-not-all_met)
+leaf-learn_world-requires t c = search (rules, room_kept, leaf_found t (goal.at.leaf-learn_world-requires t c).Else-not-all_met)
 
 -- ---- all_met
 
@@ -208,15 +208,15 @@ pub all_met-returns-then-not-one_met : goal.all_met-returns-then-not-one_met
 all_met-returns-then-not-one_met t c = (unsolved _ _ c.requires.ready _ (own_no_solution c.question_of-q.ensures (rw c.if-not-one_met.true at c.one_met.ensures.0)), c.one_met.ensures.1)
 
 -- the entry is one of those that its relation asks for
-all-has : (t : ℕ) (c : goal.all_met-After-asking-all t)
+all_has : (t : ℕ) (c : goal.all_met-After-asking-all t)
     → member c.asking-all.result c.in-At.i ≡ true
-all-has t c = ap (λ (p : ℕ → Bool). p c.in-At.i) c.asking-all.ensures ∙ own_asking c.question_of-q.ensures _ (c.loop-i.invariant.0.within _ c.in-At.ensures.here)
+all_has t c = ap (λ (p : ℕ → Bool). p c.in-At.i) c.asking-all.ensures ∙ own_asking c.question_of-q.ensures _ (c.loop-i.invariant.0.within _ c.in-At.ensures.here)
 
 pub all_met-loop-i-smaller : goal.all_met-loop-i-smaller
 all_met-loop-i-smaller t c =
     let i = (goal.at.all_met-loop-i-smaller t c).In-At in
     rw c.minus-rest.ensures
-    (count_done _ (member c.asking-all.result) (chosen t i) (all-has t (goal.at.all_met-loop-i-smaller t c).After-asking-all) (counting_below c.requires.ready _ (counts t i)))
+    (count_done _ (member c.asking-all.result) (chosen t i) (all_has t (goal.at.all_met-loop-i-smaller t c).After-asking-all) (counting_below c.requires.ready _ (counts t i)))
 
 pub all_met-loop-i-preserved : goal.all_met-loop-i-preserved
 all_met-loop-i-preserved t c =
@@ -372,17 +372,17 @@ by_all-returns-in-Nothing t c = c.in-Nothing.ensures
 -- ---- by_list
 
 -- the limits that allow none, and the rest: all of the needs and limits, in two parts
-base-closed : (t : ℕ) (c : goal.by_list-After-minus t) → (i : ℕ) → member c.intersection-base.result i ≡ true → Closed (problem_of c.args.entries.now c.args.q) i
-base-closed t c i h = c.closed.ensures i (both_parts true (member c.closed.result i) _ (rw c.intersection-base.ensures at h)).0
+base_closed : (t : ℕ) (c : goal.by_list-After-minus t) → (i : ℕ) → member c.intersection-base.result i ≡ true → Closed (problem_of c.args.entries.now c.args.q) i
+base_closed t c i h = c.closed.ensures i (both_parts true (member c.closed.result i) _ (rw c.intersection-base.ensures at h)).0
 
-base-all : (t : ℕ) (c : goal.by_list-After-minus t) → Within (member c.intersection-base.result) (member c.args.all)
-base-all t c i h = (both_parts true (member c.closed.result i) _ (rw c.intersection-base.ensures at h)).1
+base_all : (t : ℕ) (c : goal.by_list-After-minus t) → Within (member c.intersection-base.result) (member c.args.all)
+base_all t c i h = (both_parts true (member c.closed.result i) _ (rw c.intersection-base.ensures at h)).1
 
 parts_all : (t : ℕ) (c : goal.by_list-After-minus t) → Within (either (member c.intersection-base.result) (member c.minus.result)) (asking (problem_of c.args.entries.now c.args.q))
-parts_all t c = within_same c.requires.all_asking (rw c.minus.ensures (parts_inside (member c.args.all) (member c.intersection-base.result) (base-all t c)))
+parts_all t c = within_same c.requires.all_asking (rw c.minus.ensures (parts_inside (member c.args.all) (member c.intersection-base.result) (base_all t c)))
 
-all-parts : (t : ℕ) (c : goal.by_list-After-minus t) → Within (asking (problem_of c.args.entries.now c.args.q)) (either (member c.intersection-base.result) (member c.minus.result))
-all-parts t c i h = rw c.minus.ensures (parts_within (member c.args.all) (member c.intersection-base.result) i (ap (λ (p : ℕ → Bool). p i) c.requires.all_asking ∙ h))
+all_parts : (t : ℕ) (c : goal.by_list-After-minus t) → Within (asking (problem_of c.args.entries.now c.args.q)) (either (member c.intersection-base.result) (member c.minus.result))
+all_parts t c i h = rw c.minus.ensures (parts_within (member c.args.all) (member c.intersection-base.result) i (ap (λ (p : ℕ → Bool). p i) c.requires.all_asking ∙ h))
 
 pub by_list-largest-requires : goal.by_list-largest-requires
 by_list-largest-requires t c =
@@ -418,7 +418,7 @@ pub by_list-returns-else-selected : goal.by_list-returns-else-selected
 by_list-returns-else-selected t c =
     let a = c.args in
     let listed = c.in-Room.ensures in
-    let covers = listing_covers (problem_of a.entries.now a.q) (member c.intersection-base.result) (member c.minus.result) a.work.now c.largest.new.work (base-closed t (goal.at.by_list-returns-else-selected t c).After-minus) (all-parts t (goal.at.by_list-returns-else-selected t c).After-minus) listed in
+    let covers = listing_covers (problem_of a.entries.now a.q) (member c.intersection-base.result) (member c.minus.result) a.work.now c.largest.new.work (base_closed t (goal.at.by_list-returns-else-selected t c).After-minus) (all_parts t (goal.at.by_list-returns-else-selected t c).After-minus) listed in
     (rw c.if-selected.false at c.selected.ensures.0 covers, c.selected.ensures.1)
 
 pub by_list-selected-requires-in-Full : goal.by_list-selected-requires-in-Full
@@ -538,16 +538,16 @@ by_more-returns-then-anew t c = (c.anew.ensures.answers c.if-anew.true, c.anew.e
 -- ---- anew
 
 -- the entry whose order is next
-order-in : (t : ℕ) (c : goal.anew-In-At t)
+order_in : (t : ℕ) (c : goal.anew-In-At t)
     → member c.loop-i.rest c.in-At.i ≡ true
-order-in t c = (c.in-At.ensures).here
+order_in t c = (c.in-At.ensures).here
 
 -- it is an entry
 order_small : (t : ℕ) (c : goal.anew-In-At t)
     → c.in-At.i < 64
 order_small t c =
     let asked = c.requires in
-    omega (arith, chosen_below asked c.loop-i.invariant.0 _ (order-in t c), asked.promising.few)
+    omega (arith, chosen_below asked c.loop-i.invariant.0 _ (order_in t c), asked.promising.few)
 
 pub anew-returns-in_default : goal.anew-returns-in_default
 anew-returns-in_default t c = record { answers = λ e. absurd (false≢true e); memory = c.loop-i.invariant.2 }
@@ -559,7 +559,7 @@ pub anew-returns-then-greedy : goal.anew-returns-then-greedy
 anew-returns-then-greedy t c = record { answers = λ e. c.greedy.ensures.answers c.if-greedy.true; memory = c.greedy.ensures.memory }
 
 pub anew-loop-i-smaller : goal.anew-loop-i-smaller
-anew-loop-i-smaller t c = rw c.without-rest.ensures (count_removed (member c.loop-i.rest) 64 (order-in t (goal.at.anew-loop-i-smaller t c).In-At) (order_small t (goal.at.anew-loop-i-smaller t c).In-At))
+anew-loop-i-smaller t c = rw c.without-rest.ensures (count_removed (member c.loop-i.rest) 64 (order_in t (goal.at.anew-loop-i-smaller t c).In-At) (order_small t (goal.at.anew-loop-i-smaller t c).In-At))
 
 pub anew-loop-i-preserved : goal.anew-loop-i-preserved
 anew-loop-i-preserved t c = (
@@ -574,16 +574,16 @@ anew-greedy-requires t c = search (rules, problem_kept)
 -- ---- extend
 
 -- the promise to begin with
-seed-in : (t : ℕ) (c : goal.extend-In-At t)
+seed_in : (t : ℕ) (c : goal.extend-In-At t)
     → member c.loop-i.rest c.in-At.i ≡ true
-seed-in t c = (c.in-At.ensures).here
+seed_in t c = (c.in-At.ensures).here
 
 -- it is an entry
-seed-small : (t : ℕ) (c : goal.extend-In-At t)
+seed_small : (t : ℕ) (c : goal.extend-In-At t)
     → c.in-At.i < 64
-seed-small t c =
+seed_small t c =
     let asked = c.requires.problem in
-    omega (arith, chosen_below asked c.loop-i.invariant.0 _ (seed-in t c), asked.promising.few)
+    omega (arith, chosen_below asked c.loop-i.invariant.0 _ (seed_in t c), asked.promising.few)
 
 pub extend-seed-set-requires : goal.extend-seed-set-requires
 extend-seed-set-requires t c =
@@ -605,7 +605,7 @@ extend-also_new-listed-requires t c =
     room_placed (problem_of a.entries.now a.q) asked.promising.few (room_kept (c.seed-set.auto.work ∙ c.loop-i.invariant.1) asked.room) c.loop-i.invariant.2.lists.some
 
 pub extend-loop-i-smaller : goal.extend-loop-i-smaller
-extend-loop-i-smaller t c = rw c.without-others.ensures (count_removed (member c.loop-i.rest) 64 (seed-in t (goal.at.extend-loop-i-smaller t c).In-At) (seed-small t (goal.at.extend-loop-i-smaller t c).In-At))
+extend-loop-i-smaller t c = rw c.without-others.ensures (count_removed (member c.loop-i.rest) 64 (seed_in t (goal.at.extend-loop-i-smaller t c).In-At) (seed_small t (goal.at.extend-loop-i-smaller t c).In-At))
 
 pub extend-loop-i-preserved : goal.extend-loop-i-preserved
 extend-loop-i-preserved t c =
@@ -662,14 +662,14 @@ seed-returns t c =
 -- ---- refute
 
 -- what is wanted of the part
-part-fewer : (t : ℕ) (c : goal.refute-After-narrowed-p t)
+part_fewer : (t : ℕ) (c : goal.refute-After-narrowed-p t)
     → (b : Bool) → Within (wanted (member c.narrowed-p.result.yes) (member c.narrowed-p.result.no) b) (wanted (member c.args.q.yes) (member c.args.q.no) b)
-part-fewer t c = narrowed_fewer c.narrowed-p.ensures
+part_fewer t c = narrowed_fewer c.narrowed-p.ensures
 
 pub refute-asking-requires : goal.refute-asking-requires
 refute-asking-requires t c =
     let promising = c.requires.promising in
-    record { few = promising.few; below = λ b i h. promising.below b i (part-fewer t (c) b i h) }
+    record { few = promising.few; below = λ b i h. promising.below b i (part_fewer t (c) b i h) }
 
 pub refute-by_list-requires : goal.refute-by_list-requires
 refute-by_list-requires t c =
@@ -679,9 +679,9 @@ refute-by_list-requires t c =
         promising = record {
           formed = asked.promising.formed;
           few = asked.promising.few;
-          below = λ b i h. asked.promising.below b i (part-fewer t (goal.at.refute-by_list-requires t c).After-narrowed-p b i h);
+          below = λ b i h. asked.promising.below b i (part_fewer t (goal.at.refute-by_list-requires t c).After-narrowed-p b i h);
           within = λ i h. h;
-          shallow = λ b i h. asked.promising.shallow b i (part-fewer t (goal.at.refute-by_list-requires t c).After-narrowed-p b i h);
+          shallow = λ b i h. asked.promising.shallow b i (part_fewer t (goal.at.refute-by_list-requires t c).After-narrowed-p b i h);
         };
         deep = asked.deep;
         all_asking = c.asking.ensures;
@@ -696,7 +696,7 @@ refute-learn_refuted-requires t c =
     record {
       none = c.in-No.ensures.0;
       formed = asked.promising.formed;
-      small = record { few = asked.promising.few; below = λ b i h. asked.promising.below b i (part-fewer t (goal.at.refute-learn_refuted-requires t c).After-narrowed-p b i h) };
+      small = record { few = asked.promising.few; below = λ b i h. asked.promising.below b i (part_fewer t (goal.at.refute-learn_refuted-requires t c).After-narrowed-p b i h) };
       room = room_kept c.by_list.auto.work asked.room;
       memory = c.by_list.ensures.1;
     }
@@ -733,9 +733,9 @@ columns-also-requires t c =
     room_placed (problem_of a.entries.now a.q) asked.promising.few (room_kept (c.column-set.auto.work ∙ c.weighs-r.auto.work ∙ c.loop-q.invariant.1) asked.room) c.weighs-r.ensures.lists.some
 
 -- the set can be kept, and is listed or not
-column-listed : (t : ℕ) (c : goal.columns-After-also t)
+column_listed : (t : ℕ) (c : goal.columns-After-also t)
     → ListingIs (problem_of c.args.entries.now c.args.q) nothing (member c.column-set.result) c.loop-q.k c.args.depth c.args.level c.column-set.new.work c.also.new.work c.also.result
-column-listed t c =
+column_listed t c =
     let a = c.args in
     let asked = c.requires in
     let Q = problem_of a.entries.now a.q in
@@ -751,14 +751,14 @@ columns-loop-q-smaller t c = let listed = c.in-Room.ensures in omega (arith, lis
 
 pub columns-loop-q-preserved : goal.columns-loop-q-preserved
 columns-loop-q-preserved t c =
-    let listed = rw c.in-Room.is at (column-listed t (goal.at.columns-loop-q-preserved t c).After-also) in
+    let listed = rw c.in-Room.is at (column_listed t (goal.at.columns-loop-q-preserved t c).After-also) in
     (listed.lists, c.also.auto.work ∙ c.column-set.auto.work ∙ c.weighs-r.auto.work ∙ c.loop-q.invariant.1, listed.memory)
 
 pub columns-shape_of-work-in-Full : goal.columns-shape_of-work-in-Full
 columns-shape_of-work-in-Full t c = c.also.auto.work ∙ c.column-set.auto.work ∙ c.weighs-r.auto.work ∙ c.loop-q.invariant.1
 
 pub columns-returns-in-Full : goal.columns-returns-in-Full
-columns-returns-in-Full t c = (rw c.in-Full.is at (column-listed t (goal.at.columns-returns-in-Full t c).After-also)).memory
+columns-returns-in-Full t c = (rw c.in-Full.is at (column_listed t (goal.at.columns-returns-in-Full t c).After-also)).memory
 
 pub columns-loop-q-init : goal.columns-loop-q-init
 columns-loop-q-init t c = search (rules, lists_none)
@@ -807,13 +807,13 @@ pub column-returns-in_default : goal.column-returns-in_default
 column-returns-in_default t c = let inv = c.loop-q.invariant in record { promising = promising_of c.requires.promising inv.0; fit = inv.1; same = inv.4 ∙ c.grown_by-set.ensures.same ∙ c.grown-low.ensures.same; memory = inv.5 }
 
 -- the entry to begin with
-start-in : (t : ℕ) (c : goal.column-In-At t) → member c.loop-q.rest c.in-At.i ≡ true
-start-in t c = (c.in-At.ensures).here
+start_in : (t : ℕ) (c : goal.column-In-At t) → member c.loop-q.rest c.in-At.i ≡ true
+start_in t c = (c.in-At.ensures).here
 
 start_small : (t : ℕ) (c : goal.column-In-At t) → c.in-At.i < 64
 start_small t c =
     let asked = c.requires in
-    omega (arith, chosen_below asked c.loop-q.invariant.2 _ (start-in t c), asked.promising.few)
+    omega (arith, chosen_below asked c.loop-q.invariant.2 _ (start_in t c), asked.promising.few)
 
 pub column-grown-start-requires : goal.column-grown-start-requires
 column-grown-start-requires t c =
@@ -833,7 +833,7 @@ column-grown_by-set-requires-in-loop-q t c =
     )
 
 pub column-loop-q-smaller : goal.column-loop-q-smaller
-column-loop-q-smaller t c = rw c.without-others.ensures (count_removed (member c.loop-q.rest) 64 (start-in t (goal.at.column-loop-q-smaller t c).In-At) (start_small t (goal.at.column-loop-q-smaller t c).In-At))
+column-loop-q-smaller t c = rw c.without-others.ensures (count_removed (member c.loop-q.rest) 64 (start_in t (goal.at.column-loop-q-smaller t c).In-At) (start_small t (goal.at.column-loop-q-smaller t c).In-At))
 
 pub column-loop-q-preserved : goal.column-loop-q-preserved
 column-loop-q-preserved t c =
@@ -850,14 +850,14 @@ column-loop-q-preserved t c =
 -- ---- greedy
 
 -- the slots are few
-greedy-few : (t : ℕ) (c : goal.greedy-At-loop-q t) → Few c.loop-q.work c.loop-q.slots
-greedy-few t c =
+greedy_few : (t : ℕ) (c : goal.greedy-At-loop-q t) → Few c.loop-q.work c.loop-q.slots
+greedy_few t c =
     let a = c.args in
     let promising = c.requires.promising in
     serving_few a.entries.now a.q c.loop-q.work c.loop-q.slots (small_of promising) c.loop-q.invariant.0.serving c.loop-q.invariant.0.copies
 
 pub greedy-met-requires : goal.greedy-met-requires
-greedy-met-requires t c = (greedy-few t (goal.at.greedy-met-requires t c).At-loop-q, c.requires.all_asking)
+greedy-met-requires t c = (greedy_few t (goal.at.greedy-met-requires t c).At-loop-q, c.requires.all_asking)
 
 pub greedy-returns-then-met : goal.greedy-returns-then-met
 greedy-returns-then-met t c =
@@ -866,20 +866,20 @@ greedy-returns-then-met t c =
     record { answers = λ e. found (problem_of a.entries.now a.q) c.requires.promising.below inv.0.fit (rw c.if-met.true at c.met.ensures) inv.0.kept; memory = inv.2 }
 
 pub greedy-unmet-requires : goal.greedy-unmet-requires
-greedy-unmet-requires t c = (c.requires.promising.few, greedy-few t (goal.at.greedy-unmet-requires t c).At-loop-q)
+greedy-unmet-requires t c = (c.requires.promising.few, greedy_few t (goal.at.greedy-unmet-requires t c).At-loop-q)
 
 pub greedy-used_up-requires : goal.greedy-used_up-requires
-greedy-used_up-requires t c = (c.requires.promising.few, greedy-few t (goal.at.greedy-used_up-requires t c).At-loop-q)
+greedy-used_up-requires t c = (c.requires.promising.few, greedy_few t (goal.at.greedy-used_up-requires t c).At-loop-q)
 
 -- all sets that are tried are of needs and limits
-all-asks : (t : ℕ) (c : goal.greedy-At-loop-q t) → Within (member c.args.all) (asking (problem_of c.args.entries.now c.args.q))
-all-asks t c i h = rw c.requires.all_asking at h
+all_asks : (t : ℕ) (c : goal.greedy-At-loop-q t) → Within (member c.args.all) (asking (problem_of c.args.entries.now c.args.q))
+all_asks t c i h = rw c.requires.all_asking at h
 
-open-asks : (t : ℕ) (c : goal.greedy-After-intersection-full t) → Within (member c.intersection-open.result) (asking (problem_of c.args.entries.now c.args.q))
-open-asks t c i h = rw c.requires.all_asking at (both_parts true (member c.unmet.result i) _ (rw c.intersection-open.ensures at h)).1
+open_asks : (t : ℕ) (c : goal.greedy-After-intersection-full t) → Within (member c.intersection-open.result) (asking (problem_of c.args.entries.now c.args.q))
+open_asks t c i h = rw c.requires.all_asking at (both_parts true (member c.unmet.result i) _ (rw c.intersection-open.ensures at h)).1
 
-full-asks : (t : ℕ) (c : goal.greedy-After-intersection-full t) → Within (member c.intersection-full.result) (asking (problem_of c.args.entries.now c.args.q))
-full-asks t c i h = rw c.requires.all_asking at (both_parts true (member c.used_up.result i) _ (rw c.intersection-full.ensures at h)).1
+full_asks : (t : ℕ) (c : goal.greedy-After-intersection-full t) → Within (member c.intersection-full.result) (asking (problem_of c.args.entries.now c.args.q))
+full_asks t c i h = rw c.requires.all_asking at (both_parts true (member c.used_up.result i) _ (rw c.intersection-full.ensures at h)).1
 
 pub greedy-grown-one-requires : goal.greedy-grown-one-requires
 greedy-grown-one-requires t c =
@@ -887,7 +887,7 @@ greedy-grown-one-requires t c =
     let inv = c.loop-q.invariant in
     let nothing_in : Within (member c.empty.result) (asking (problem_of c.args.entries.now c.args.q)) = rw c.empty.ensures (λ i h. absurd (false≢true h)) in (
       omega (arith, c.decreases),
-      grow_asked asked nothing_in (λ i h. open-asks t (goal.at.greedy-grown-one-requires t c).After-intersection-full i (c.foremost.ensures i h)) (inl c.empty.ensures) inv.1 inv.2,
+      grow_asked asked nothing_in (λ i h. open_asks t (goal.at.greedy-grown-one-requires t c).After-intersection-full i (c.foremost.ensures i h)) (inl c.empty.ensures) inv.1 inv.2,
     )
 
 pub greedy-grown-safe-requires : goal.greedy-grown-safe-requires
@@ -895,7 +895,7 @@ greedy-grown-safe-requires t c =
     let asked = c.requires in
     let one = c.grown-one.ensures in (
       omega (arith, c.decreases),
-      grow_asked asked one.promising.within (full-asks t (goal.at.greedy-grown-safe-requires t c).After-intersection-full) one.fit (c.grown-one.auto.work ∙ c.loop-q.invariant.1) one.memory,
+      grow_asked asked one.promising.within (full_asks t (goal.at.greedy-grown-safe-requires t c).After-intersection-full) one.fit (c.grown-one.auto.work ∙ c.loop-q.invariant.1) one.memory,
     )
 
 pub greedy-grown-wide-requires : goal.greedy-grown-wide-requires
@@ -903,7 +903,7 @@ greedy-grown-wide-requires t c =
     let asked = c.requires in
     let safe = c.grown-safe.ensures in (
       omega (arith, c.decreases),
-      grow_asked asked safe.promising.within (open-asks t (goal.at.greedy-grown-wide-requires t c).After-intersection-full) safe.fit (c.grown-safe.auto.work ∙ c.grown-one.auto.work ∙ c.loop-q.invariant.1) safe.memory,
+      grow_asked asked safe.promising.within (open_asks t (goal.at.greedy-grown-wide-requires t c).After-intersection-full) safe.fit (c.grown-safe.auto.work ∙ c.grown-one.auto.work ∙ c.loop-q.invariant.1) safe.memory,
     )
 
 pub greedy-grown-set-requires : goal.greedy-grown-set-requires
@@ -911,59 +911,59 @@ greedy-grown-set-requires t c =
     let asked = c.requires in
     let wide = c.grown-wide.ensures in (
       omega (arith, c.decreases),
-      grow_asked asked wide.promising.within (all-asks t (goal.at.greedy-grown-set-requires t c).At-loop-q) wide.fit (c.grown-wide.auto.work ∙ c.grown-safe.auto.work ∙ c.grown-one.auto.work ∙ c.loop-q.invariant.1) wide.memory,
+      grow_asked asked wide.promising.within (all_asks t (goal.at.greedy-grown-set-requires t c).At-loop-q) wide.fit (c.grown-wide.auto.work ∙ c.grown-safe.auto.work ∙ c.grown-one.auto.work ∙ c.loop-q.invariant.1) wide.memory,
     )
 
 -- the slots are the same after the set was grown
-still-taken : (t : ℕ) (c : goal.greedy-After-grown-set t)
+still_taken : (t : ℕ) (c : goal.greedy-After-grown-set t)
     → Taken (problem_of c.args.entries.now c.args.q) c.loop-q.slots c.grown-set.new.work
-still-taken t c =
+still_taken t c =
     let a = c.args in
     let P = problem_of a.entries.now a.q in
     taken_kept P {level = a.level} c.loop-q.work c.grown-set.new.work (taken_below P c.requires.room c.loop-q.invariant.0) (c.grown-set.ensures.same ∙ c.grown-wide.ensures.same ∙ c.grown-safe.ensures.same ∙ c.grown-one.ensures.same) c.loop-q.invariant.0
 
-grown-length : (t : ℕ) (c : goal.greedy-After-grown-set t)
+grown_length : (t : ℕ) (c : goal.greedy-After-grown-set t)
     → length c.grown-set.new.work ≡ length c.args.work.now
-grown-length t c = c.grown-set.auto.work ∙ c.grown-wide.auto.work ∙ c.grown-safe.auto.work ∙ c.grown-one.auto.work ∙ c.loop-q.invariant.1
+grown_length t c = c.grown-set.auto.work ∙ c.grown-wide.auto.work ∙ c.grown-safe.auto.work ∙ c.grown-one.auto.work ∙ c.loop-q.invariant.1
 
 pub greedy-useful-m-requires : goal.greedy-useful-m-requires
 greedy-useful-m-requires t c =
     let a = c.args in
     let promising = c.requires.promising in
-    let now = still-taken t (goal.at.greedy-useful-m-requires t c).After-grown-set in
+    let now = still_taken t (goal.at.greedy-useful-m-requires t c).After-grown-set in
     (serving_few a.entries.now a.q c.grown-set.new.work c.loop-q.slots (small_of promising) now.serving now.copies, now.kept)
 
 pub greedy-shape_of-work-then-m-eq0 : goal.greedy-shape_of-work-then-m-eq0
-greedy-shape_of-work-then-m-eq0 t c = grown-length t (goal.at.greedy-shape_of-work-then-m-eq0 t c).After-grown-set
+greedy-shape_of-work-then-m-eq0 t c = grown_length t (goal.at.greedy-shape_of-work-then-m-eq0 t c).After-grown-set
 
 pub greedy-returns-then-m-eq0 : goal.greedy-returns-then-m-eq0
 greedy-returns-then-m-eq0 t c = record { answers = λ e. absurd (false≢true e); memory = c.grown-set.ensures.memory }
 
 -- copies of the set are of use, and there is room for the slot
-some-use : (t : ℕ) (c : goal.greedy-Else-m-eq0 t) → 0 < c.useful-m.result
-some-use t c = omega (arith, c.if-m-eq0.false)
+some_use : (t : ℕ) (c : goal.greedy-Else-m-eq0 t) → 0 < c.useful-m.result
+some_use t c = omega (arith, c.if-m-eq0.false)
 
-slot-room : (t : ℕ) (c : goal.greedy-Else-m-eq0 t) → Taken (problem_of c.args.entries.now c.args.q) c.loop-q.slots c.grown-set.new.work → suc c.loop-q.slots ≤ sum_of_grades (wide_in c.args.entries.now) (length c.args.entries.now)
-slot-room t c taken = taken_room (problem_of c.args.entries.now c.args.q) taken c.useful-m.ensures (some-use t c)
+slot_room : (t : ℕ) (c : goal.greedy-Else-m-eq0 t) → Taken (problem_of c.args.entries.now c.args.q) c.loop-q.slots c.grown-set.new.work → suc c.loop-q.slots ≤ sum_of_grades (wide_in c.args.entries.now) (length c.args.entries.now)
+slot_room t c taken = taken_room (problem_of c.args.entries.now c.args.q) taken c.useful-m.ensures (some_use t c)
 
 pub greedy-put_slot-requires : goal.greedy-put_slot-requires
-greedy-put_slot-requires t c = omega (arith, slot-room t (goal.at.greedy-put_slot-requires t c).Else-m-eq0 (still-taken t (goal.at.greedy-put_slot-requires t c).After-grown-set), c.requires.room.stack, room_level c.requires.room, grown-length t (goal.at.greedy-put_slot-requires t c).After-grown-set)
+greedy-put_slot-requires t c = omega (arith, slot_room t (goal.at.greedy-put_slot-requires t c).Else-m-eq0 (still_taken t (goal.at.greedy-put_slot-requires t c).After-grown-set), c.requires.room.stack, room_level c.requires.room, grown_length t (goal.at.greedy-put_slot-requires t c).After-grown-set)
 
 pub greedy-overflow_add-slots : goal.greedy-overflow_add-slots
-greedy-overflow_add-slots t c = record { fits = omega (arith, slot-room t (goal.at.greedy-overflow_add-slots t c).Else-m-eq0 (still-taken t (goal.at.greedy-overflow_add-slots t c).After-grown-set), c.requires.room.stack, room_level c.requires.room) }
+greedy-overflow_add-slots t c = record { fits = omega (arith, slot_room t (goal.at.greedy-overflow_add-slots t c).Else-m-eq0 (still_taken t (goal.at.greedy-overflow_add-slots t c).After-grown-set), c.requires.room.stack, room_level c.requires.room) }
 
 pub greedy-loop-q-smaller : goal.greedy-loop-q-smaller
-greedy-loop-q-smaller t c = omega (arith, slot-room t (goal.at.greedy-loop-q-smaller t c).Else-m-eq0 (still-taken t (goal.at.greedy-loop-q-smaller t c).After-grown-set))
+greedy-loop-q-smaller t c = omega (arith, slot_room t (goal.at.greedy-loop-q-smaller t c).Else-m-eq0 (still_taken t (goal.at.greedy-loop-q-smaller t c).After-grown-set))
 
 pub greedy-loop-q-preserved : goal.greedy-loop-q-preserved
 greedy-loop-q-preserved t c =
     let a = c.args in
     let P = problem_of a.entries.now a.q in
     let set = c.grown-set.result in
-    let fit = fit_useful P set c.grown-set.ensures.fit c.useful-m.ensures (some-use t (goal.at.greedy-loop-q-preserved t c).Else-m-eq0) in (
-      rw add-one (taken_more P (still-taken t (goal.at.greedy-loop-q-preserved t c).After-grown-set) c.useful-m.ensures (some-use t (goal.at.greedy-loop-q-preserved t c).Else-m-eq0) fit c.put_slot.ensures),
-      c.put_slot.ensures.same_length ∙ grown-length t (goal.at.greedy-loop-q-preserved t c).After-grown-set,
-      memory_put P a.depth a.level c.grown-set.new.work c.put_slot.new.words (omega (arith, slot-room t (goal.at.greedy-loop-q-preserved t c).Else-m-eq0 (still-taken t (goal.at.greedy-loop-q-preserved t c).After-grown-set), c.requires.room.stack)) c.put_slot.ensures c.grown-set.ensures.memory,
+    let fit = fit_useful P set c.grown-set.ensures.fit c.useful-m.ensures (some_use t (goal.at.greedy-loop-q-preserved t c).Else-m-eq0) in (
+      rw add-one (taken_more P (still_taken t (goal.at.greedy-loop-q-preserved t c).After-grown-set) c.useful-m.ensures (some_use t (goal.at.greedy-loop-q-preserved t c).Else-m-eq0) fit c.put_slot.ensures),
+      c.put_slot.ensures.same_length ∙ grown_length t (goal.at.greedy-loop-q-preserved t c).After-grown-set,
+      memory_put P a.depth a.level c.grown-set.new.work c.put_slot.new.words (omega (arith, slot_room t (goal.at.greedy-loop-q-preserved t c).Else-m-eq0 (still_taken t (goal.at.greedy-loop-q-preserved t c).After-grown-set), c.requires.room.stack)) c.put_slot.ensures c.grown-set.ensures.memory,
     )
 
 pub greedy-loop-q-init : goal.greedy-loop-q-init
@@ -978,15 +978,15 @@ grown_by-loop-i-init t c =
     (λ i h. asked.promising.within i (either_left (member a.low) (member a.free) i h), λ i h. asked.promising.within i (either_right (member a.low) (member a.free) i h), asked.fit, refl, refl, asked.memory)
 
 -- the member that is tried next
-next-in : (t : ℕ) (c : goal.grown_by-In-At t) → member c.loop-i.rest c.in-At.i ≡ true
-next-in t c = c.heaviest.ensures _ (c.in-At.ensures).here
+next_in : (t : ℕ) (c : goal.grown_by-In-At t) → member c.loop-i.rest c.in-At.i ≡ true
+next_in t c = c.heaviest.ensures _ (c.in-At.ensures).here
 
 next_small : (t : ℕ) (c : goal.grown_by-In-At t) → c.in-At.i < 64
 next_small t c =
     let a = c.args in
     let promising = c.requires.promising in
     let P = problem_of a.entries.now a.q in
-    omega (arith, promise_below P (asking P) (a.depth - 1) (promising_of promising (λ i h. h)) c.in-At.i (c.loop-i.invariant.1 _ (next-in t c)), promising.few)
+    omega (arith, promise_below P (asking P) (a.depth - 1) (promising_of promising (λ i h. h)) c.in-At.i (c.loop-i.invariant.1 _ (next_in t c)), promising.few)
 
 pub grown_by-with-more-requires : goal.grown_by-with-more-requires
 grown_by-with-more-requires t c = next_small t (goal.at.grown_by-with-more-requires t c).In-At
@@ -1002,7 +1002,7 @@ grown_by-keeps-requires t c =
     (omega (arith, c.decreases), record { promising = promising_of asked.promising (more_within t (goal.at.grown_by-keeps-requires t c).After-with-more); deep = asked.deep; room = room_kept inv.3 asked.room; memory = inv.5 })
 
 pub grown_by-loop-i-smaller-then-keeps : goal.grown_by-loop-i-smaller-then-keeps
-grown_by-loop-i-smaller-then-keeps t c = rw c.without-rest.ensures (count_removed (member c.loop-i.rest) 64 (next-in t (goal.at.grown_by-loop-i-smaller-then-keeps t c).In-At) (next_small t (goal.at.grown_by-loop-i-smaller-then-keeps t c).In-At))
+grown_by-loop-i-smaller-then-keeps t c = rw c.without-rest.ensures (count_removed (member c.loop-i.rest) 64 (next_in t (goal.at.grown_by-loop-i-smaller-then-keeps t c).In-At) (next_small t (goal.at.grown_by-loop-i-smaller-then-keeps t c).In-At))
 
 pub grown_by-loop-i-preserved-then-keeps : goal.grown_by-loop-i-preserved-then-keeps
 grown_by-loop-i-preserved-then-keeps t c =
@@ -1016,7 +1016,7 @@ grown_by-loop-i-preserved-then-keeps t c =
     )
 
 pub grown_by-loop-i-smaller : goal.grown_by-loop-i-smaller
-grown_by-loop-i-smaller t c = rw c.without-rest.ensures (count_removed (member c.loop-i.rest) 64 (next-in t (goal.at.grown_by-loop-i-smaller t c).In-At) (next_small t (goal.at.grown_by-loop-i-smaller t c).In-At))
+grown_by-loop-i-smaller t c = rw c.without-rest.ensures (count_removed (member c.loop-i.rest) 64 (next_in t (goal.at.grown_by-loop-i-smaller t c).In-At) (next_small t (goal.at.grown_by-loop-i-smaller t c).In-At))
 
 pub grown_by-loop-i-preserved : goal.grown_by-loop-i-preserved
 grown_by-loop-i-preserved t c =
@@ -1047,28 +1047,28 @@ pub probe-slice_bounds-search-end-in-loop-asked : goal.probe-slice_bounds-search
 probe-slice_bounds-search-end-in-loop-asked t c = sym (length-take-le c.args.level c.loop-asked.work (room_level (room_kept c.loop-asked.invariant.1 c.requires.room)))
 
 -- as many have come back
-searched-level : (t : ℕ) (c : goal.probe-After-search t) → length c.search.new.words ≡ c.args.level
-searched-level t c = c.search.auto.words ∙ length-take-le c.args.level c.loop-asked.work (room_level (room_kept c.loop-asked.invariant.1 c.requires.room))
+searched_level : (t : ℕ) (c : goal.probe-After-search t) → length c.search.new.words ≡ c.args.level
+searched_level t c = c.search.auto.words ∙ length-take-le c.args.level c.loop-asked.work (room_level (room_kept c.loop-asked.invariant.1 c.requires.room))
 
-search-room : (t : ℕ) (c : goal.probe-After-search t)
+search_room : (t : ℕ) (c : goal.probe-After-search t)
     → Roomy (wide_in c.args.entries.now) (length c.args.entries.now) c.args.depth c.args.level (length (c.search.new.words ++ drop c.args.level c.loop-asked.work))
-search-room t c = room_kept (length_front c.loop-asked.work c.search.new.words c.args.level c.search.auto.words ∙ c.loop-asked.invariant.1) c.requires.room
+search_room t c = room_kept (length_front c.loop-asked.work c.search.new.words c.args.level c.search.auto.words ∙ c.loop-asked.invariant.1) c.requires.room
 
-search-memory : (t : ℕ) (c : goal.probe-After-search t)
+search_memory : (t : ℕ) (c : goal.probe-After-search t)
     → Remembers (wide_in c.args.entries.now) c.args.depth c.args.level (c.search.new.words ++ drop c.args.level c.loop-asked.work)
-search-memory t c = memory_over (wide_in c.args.entries.now) c.loop-asked.work c.search.new.words c.args.depth c.args.level (searched-level t c) c.loop-asked.invariant.2
+search_memory t c = memory_over (wide_in c.args.entries.now) c.loop-asked.work c.search.new.words c.args.depth c.args.level (searched_level t c) c.loop-asked.invariant.2
 
 pub probe-shape_of-work-in-Found : goal.probe-shape_of-work-in-Found
 probe-shape_of-work-in-Found t c = length_front c.loop-asked.work c.search.new.words c.args.level c.search.auto.words ∙ c.loop-asked.invariant.1
 
 pub probe-returns-in-Found : goal.probe-returns-in-Found
-probe-returns-in-Found t c = (c.in-Found.ensures, search-memory t (goal.at.probe-returns-in-Found t c).After-search)
+probe-returns-in-Found t c = (c.in-Found.ensures, search_memory t (goal.at.probe-returns-in-Found t c).After-search)
 
 pub probe-shape_of-work-in-Failed : goal.probe-shape_of-work-in-Failed
 probe-shape_of-work-in-Failed t c = length_front c.loop-asked.work c.search.new.words c.args.level c.search.auto.words ∙ c.loop-asked.invariant.1
 
 pub probe-returns-in-Failed : goal.probe-returns-in-Failed
-probe-returns-in-Failed t c = (c.in-Failed.ensures, search-memory t (goal.at.probe-returns-in-Failed t c).After-search)
+probe-returns-in-Failed t c = (c.in-Failed.ensures, search_memory t (goal.at.probe-returns-in-Failed t c).After-search)
 
 -- what the search has asked for
 told : (t : ℕ) (c : goal.probe-In-Ask t)
@@ -1083,75 +1083,75 @@ probe-keeps-requires t c =
       record {
         promising = promising_fewer given.promising (within_same given.all_asking (told t (goal.at.probe-keeps-requires t c).In-Ask).0.at.within);
         deep = given.deep;
-        room = search-room t (goal.at.probe-keeps-requires t c).After-search;
-        memory = search-memory t (goal.at.probe-keeps-requires t c).After-search;
+        room = search_room t (goal.at.probe-keeps-requires t c).After-search;
+        memory = search_memory t (goal.at.probe-keeps-requires t c).After-search;
       },
     )
 
 -- the try has kept the level's words: what was asked is asked still, and there is no more to be done
-keeps-front : (t : ℕ) (c : goal.probe-After-keeps t) → take c.args.level c.keeps.new.work ≡ c.search.new.words
-keeps-front t c =
+keeps_front : (t : ℕ) (c : goal.probe-After-keeps t) → take c.args.level c.keeps.new.work ≡ c.search.new.words
+keeps_front t c =
     c.keeps.ensures.same
     ∙ take_at c.search.new.words (drop c.args.level c.loop-asked.work) c.args.level (c.search.auto.words ∙ length-take-le c.args.level c.loop-asked.work (room_level (room_kept c.loop-asked.invariant.1 c.requires.room)))
 
-keeps-fits : (t : ℕ) (c : goal.probe-After-keeps t) → c.args.level ≤ length c.keeps.new.work
-keeps-fits t c =
+keeps_fits : (t : ℕ) (c : goal.probe-After-keeps t) → c.args.level ≤ length c.keeps.new.work
+keeps_fits t c =
     room_level (room_kept (c.keeps.auto.work ∙ length_front c.loop-asked.work c.search.new.words c.args.level c.search.auto.words ∙ c.loop-asked.invariant.1) c.requires.room)
 
-behind-keeps : (t : ℕ) (c : goal.probe-After-keeps t)
+behind_keeps : (t : ℕ) (c : goal.probe-After-keeps t)
     → Asked (problem_of c.args.entries.now c.args.q) c.args.all (take c.args.level c.keeps.new.work) c.in-Ask.asked c.in-Ask.m
-behind-keeps t c = rw (keeps-front t c) c.in-Ask.ensures.0
+behind_keeps t c = rw (keeps_front t c) c.in-Ask.ensures.0
 
-keeps-to-do : (t : ℕ) (c : goal.probe-After-keeps t)
+keeps_to_do : (t : ℕ) (c : goal.probe-After-keeps t)
     → to_do (take c.args.level c.keeps.new.work) c.in-Ask.asked ≤ to_do (take c.args.level c.loop-asked.work) c.loop-asked.at
-keeps-to-do t c = rw (keeps-front t c) c.in-Ask.ensures.1
+keeps_to_do t c = rw (keeps_front t c) c.in-Ask.ensures.1
 
 pub probe-slice_bounds-take-end : goal.probe-slice_bounds-take-end
-probe-slice_bounds-take-end t c = keeps-fits t (goal.at.probe-slice_bounds-take-end t c).After-keeps
+probe-slice_bounds-take-end t c = keeps_fits t (goal.at.probe-slice_bounds-take-end t c).After-keeps
 
 pub probe-slice_bounds-take-end-then-keeps : goal.probe-slice_bounds-take-end-then-keeps
-probe-slice_bounds-take-end-then-keeps t c = sym (length-take-le c.args.level c.keeps.new.work (keeps-fits t (goal.at.probe-slice_bounds-take-end-then-keeps t c).After-keeps))
+probe-slice_bounds-take-end-then-keeps t c = sym (length-take-le c.args.level c.keeps.new.work (keeps_fits t (goal.at.probe-slice_bounds-take-end-then-keeps t c).After-keeps))
 
 pub probe-take-at-requires : goal.probe-take-at-requires
-probe-take-at-requires t c = ((told t (goal.at.probe-take-at-requires t c).In-Ask).0.at.within, (behind-keeps t (goal.at.probe-take-at-requires t c).After-keeps).space)
+probe-take-at-requires t c = ((told t (goal.at.probe-take-at-requires t c).In-Ask).0.at.within, (behind_keeps t (goal.at.probe-take-at-requires t c).After-keeps).space)
 
 -- behind a set that can be kept
-behind-take : (t : ℕ) (c : goal.probe-After-take-at t)
+behind_take : (t : ℕ) (c : goal.probe-After-take-at t)
     → Asked (problem_of c.args.entries.now c.args.q) c.args.all (take c.args.level c.keeps.new.work) c.in-Ask.asked c.in-Ask.m
     → Nearer (problem_of c.args.entries.now c.args.q) c.args.all c.take-at.new.words (to_do (take c.args.level c.keeps.new.work) c.in-Ask.asked) c.take-at.result
-behind-take t c asked = c.take-at.ensures (problem_of c.args.entries.now c.args.q) asked (rw c.if-keeps.true at c.keeps.ensures.answers)
+behind_take t c asked = c.take-at.ensures (problem_of c.args.entries.now c.args.q) asked (rw c.if-keeps.true at c.keeps.ensures.answers)
 
-taken-level : (t : ℕ) (c : goal.probe-After-take-at t) → c.args.level ≤ length c.keeps.new.work → length c.take-at.new.words ≡ c.args.level
-taken-level t c fits = c.take-at.auto.words ∙ length-take-le c.args.level c.keeps.new.work fits
+taken_level : (t : ℕ) (c : goal.probe-After-take-at t) → c.args.level ≤ length c.keeps.new.work → length c.take-at.new.words ≡ c.args.level
+taken_level t c fits = c.take-at.auto.words ∙ length-take-le c.args.level c.keeps.new.work fits
 
-take-front : (t : ℕ) (c : goal.probe-After-take-at t) → c.args.level ≤ length c.keeps.new.work
+take_front : (t : ℕ) (c : goal.probe-After-take-at t) → c.args.level ≤ length c.keeps.new.work
     → take c.args.level (c.take-at.new.words ++ drop c.args.level c.keeps.new.work) ≡ c.take-at.new.words
-take-front t c fits = take_at c.take-at.new.words (drop c.args.level c.keeps.new.work) c.args.level (taken-level t c fits)
+take_front t c fits = take_at c.take-at.new.words (drop c.args.level c.keeps.new.work) c.args.level (taken_level t c fits)
 
 pub probe-loop-asked-smaller-then-keeps : goal.probe-loop-asked-smaller-then-keeps
-probe-loop-asked-smaller-then-keeps t c = rw (take-front t (goal.at.probe-loop-asked-smaller-then-keeps t c).After-take-at (keeps-fits t (goal.at.probe-loop-asked-smaller-then-keeps t c).After-keeps)) (omega (arith, (behind-take t (goal.at.probe-loop-asked-smaller-then-keeps t c).After-take-at (behind-keeps t (goal.at.probe-loop-asked-smaller-then-keeps t c).After-keeps)).less, keeps-to-do t (goal.at.probe-loop-asked-smaller-then-keeps t c).After-keeps))
+probe-loop-asked-smaller-then-keeps t c = rw (take_front t (goal.at.probe-loop-asked-smaller-then-keeps t c).After-take-at (keeps_fits t (goal.at.probe-loop-asked-smaller-then-keeps t c).After-keeps)) (omega (arith, (behind_take t (goal.at.probe-loop-asked-smaller-then-keeps t c).After-take-at (behind_keeps t (goal.at.probe-loop-asked-smaller-then-keeps t c).After-keeps)).less, keeps_to_do t (goal.at.probe-loop-asked-smaller-then-keeps t c).After-keeps))
 
 pub probe-loop-asked-preserved-then-keeps : goal.probe-loop-asked-preserved-then-keeps
 probe-loop-asked-preserved-then-keeps t c = (
-  rw (take-front t (goal.at.probe-loop-asked-preserved-then-keeps t c).After-take-at (keeps-fits t (goal.at.probe-loop-asked-preserved-then-keeps t c).After-keeps)) (behind-take t (goal.at.probe-loop-asked-preserved-then-keeps t c).After-take-at (behind-keeps t (goal.at.probe-loop-asked-preserved-then-keeps t c).After-keeps)).at,
+  rw (take_front t (goal.at.probe-loop-asked-preserved-then-keeps t c).After-take-at (keeps_fits t (goal.at.probe-loop-asked-preserved-then-keeps t c).After-keeps)) (behind_take t (goal.at.probe-loop-asked-preserved-then-keeps t c).After-take-at (behind_keeps t (goal.at.probe-loop-asked-preserved-then-keeps t c).After-keeps)).at,
   length_front c.keeps.new.work c.take-at.new.words c.args.level c.take-at.auto.words ∙ c.keeps.auto.work ∙ length_front c.loop-asked.work c.search.new.words c.args.level c.search.auto.words ∙ c.loop-asked.invariant.1,
-  memory_over (wide_in c.args.entries.now) c.keeps.new.work c.take-at.new.words c.args.depth c.args.level (taken-level t (goal.at.probe-loop-asked-preserved-then-keeps t c).After-take-at (keeps-fits t (goal.at.probe-loop-asked-preserved-then-keeps t c).After-keeps)) c.keeps.ensures.memory,
+  memory_over (wide_in c.args.entries.now) c.keeps.new.work c.take-at.new.words c.args.depth c.args.level (taken_level t (goal.at.probe-loop-asked-preserved-then-keeps t c).After-take-at (keeps_fits t (goal.at.probe-loop-asked-preserved-then-keeps t c).After-keeps)) c.keeps.ensures.memory,
 )
 
 pub probe-skip-at-requires : goal.probe-skip-at-requires
 probe-skip-at-requires t c = (told t (goal.at.probe-skip-at-requires t c).In-Ask).0.at.within
 
 -- behind a set that cannot be kept
-behind-skip : (t : ℕ) (c : goal.probe-After-skip-at t)
+behind_skip : (t : ℕ) (c : goal.probe-After-skip-at t)
     → Asked (problem_of c.args.entries.now c.args.q) c.args.all (take c.args.level c.keeps.new.work) c.in-Ask.asked c.in-Ask.m
     → Nearer (problem_of c.args.entries.now c.args.q) c.args.all (take c.args.level c.keeps.new.work) (to_do (take c.args.level c.keeps.new.work) c.in-Ask.asked) c.skip-at.result
-behind-skip t c asked = c.skip-at.ensures (problem_of c.args.entries.now c.args.q) (take c.args.level c.keeps.new.work) c.in-Ask.m asked (rw c.if-keeps.false at c.keeps.ensures.answers)
+behind_skip t c asked = c.skip-at.ensures (problem_of c.args.entries.now c.args.q) (take c.args.level c.keeps.new.work) c.in-Ask.m asked (rw c.if-keeps.false at c.keeps.ensures.answers)
 
 pub probe-loop-asked-smaller : goal.probe-loop-asked-smaller
-probe-loop-asked-smaller t c = omega (arith, (behind-skip t (goal.at.probe-loop-asked-smaller t c).After-skip-at (behind-keeps t (goal.at.probe-loop-asked-smaller t c).After-keeps)).less, keeps-to-do t (goal.at.probe-loop-asked-smaller t c).After-keeps)
+probe-loop-asked-smaller t c = omega (arith, (behind_skip t (goal.at.probe-loop-asked-smaller t c).After-skip-at (behind_keeps t (goal.at.probe-loop-asked-smaller t c).After-keeps)).less, keeps_to_do t (goal.at.probe-loop-asked-smaller t c).After-keeps)
 
 pub probe-loop-asked-preserved : goal.probe-loop-asked-preserved
-probe-loop-asked-preserved t c = ((behind-skip t (goal.at.probe-loop-asked-preserved t c).After-skip-at (behind-keeps t (goal.at.probe-loop-asked-preserved t c).After-keeps)).at, c.keeps.auto.work ∙ length_front c.loop-asked.work c.search.new.words c.args.level c.search.auto.words ∙ c.loop-asked.invariant.1, c.keeps.ensures.memory)
+probe-loop-asked-preserved t c = ((behind_skip t (goal.at.probe-loop-asked-preserved t c).After-skip-at (behind_keeps t (goal.at.probe-loop-asked-preserved t c).After-keeps)).at, c.keeps.auto.work ∙ length_front c.loop-asked.work c.search.new.words c.args.level c.search.auto.words ∙ c.loop-asked.invariant.1, c.keeps.ensures.memory)
 
 -- ---- largest
 
@@ -1226,23 +1226,23 @@ largest-loop-i-init t c =
     }
 
 -- the words where the loop begins are those at entry, as far as the list goes
-listed-whole : (t : ℕ) (c : goal.largest-At-loop-i t) (after : List ℕ) (r : Listing)
+listed_whole : (t : ℕ) (c : goal.largest-At-loop-i t) (after : List ℕ) (r : Listing)
     → ListingIs (problem_of c.args.entries.now c.args.q) (member c.args.low) (either (member c.args.low) (member c.args.free)) c.args.k c.args.depth c.args.level c.core_of-core.new.work after r
     → ListingIs (problem_of c.args.entries.now c.args.q) (member c.args.low) (either (member c.args.low) (member c.args.free)) c.args.k c.args.depth c.args.level c.args.work.now after r
-listed-whole t c after r =
+listed_whole t c after r =
     let a = c.args in
     let asked = c.requires in
     listing_from (problem_of a.entries.now a.q) (member a.low) (either (member a.low) (member a.free)) a.depth a.level asked.lists.some (room_list asked.room) a.work.now c.core_of-core.new.work after
     (c.core_of-core.ensures.same ∙ c.keeps.ensures.same) r
 
-as-many-words : (t : ℕ) (c : goal.largest-At-loop-i t) → length c.loop-i.work ≡ length c.args.work.now
-as-many-words t c = c.loop-i.invariant.as_many ∙ c.core_of-core.auto.work ∙ c.keeps.auto.work
+as_many_words : (t : ℕ) (c : goal.largest-At-loop-i t) → length c.loop-i.work ≡ length c.args.work.now
+as_many_words t c = c.loop-i.invariant.as_many ∙ c.core_of-core.auto.work ∙ c.keeps.auto.work
 
 pub largest-shape_of-work-in_default : goal.largest-shape_of-work-in_default
-largest-shape_of-work-in_default t c = as-many-words t (goal.at.largest-shape_of-work-in_default t c).At-loop-i
+largest-shape_of-work-in_default t c = as_many_words t (goal.at.largest-shape_of-work-in_default t c).At-loop-i
 
 pub largest-returns-in_default : goal.largest-returns-in_default
-largest-returns-in_default t c = listed-whole t (goal.at.largest-returns-in_default t c).At-loop-i _ (Listing.Room c.loop-i.listed) (branching_done c.loop-i.invariant (rw c.in_default.is at c.highest.ensures))
+largest-returns-in_default t c = listed_whole t (goal.at.largest-returns-in_default t c).At-loop-i _ (Listing.Room c.loop-i.listed) (branching_done c.loop-i.invariant (rw c.in_default.is at c.highest.ensures))
 
 -- the member of the core at hand
 picked : (t : ℕ) (c : goal.largest-In-At t) → member c.loop-i.core c.in-At.i ≡ true
@@ -1254,16 +1254,16 @@ largest-largest-requires t c =
     let at = c.loop-i.invariant in
     rw c.without-left.ensures (
       omega (arith, c.decreases, branching_fewer at _ (picked t (goal.at.largest-largest-requires t c).In-At)),
-      record { promising = branching_promising at _ (picked t (goal.at.largest-largest-requires t c).In-At); deep = asked.deep; room = room_kept (as-many-words t (goal.at.largest-largest-requires t c).At-loop-i) asked.room; memory = at.memory; lists = at.lists },
+      record { promising = branching_promising at _ (picked t (goal.at.largest-largest-requires t c).In-At); deep = asked.deep; room = room_kept (as_many_words t (goal.at.largest-largest-requires t c).At-loop-i) asked.room; memory = at.memory; lists = at.lists },
     )
 
 pub largest-shape_of-work-in-Full : goal.largest-shape_of-work-in-Full
-largest-shape_of-work-in-Full t c = c.largest.auto.work ∙ as-many-words t (goal.at.largest-shape_of-work-in-Full t c).At-loop-i
+largest-shape_of-work-in-Full t c = c.largest.auto.work ∙ as_many_words t (goal.at.largest-shape_of-work-in-Full t c).At-loop-i
 
 pub largest-returns-in-Full : goal.largest-returns-in-Full
 largest-returns-in-Full t c =
     let full = Listing.Full c.in-Full.all in
-    listed-whole t (goal.at.largest-returns-in-Full t c).At-loop-i _ full (c.loop-i.invariant.whole _ full (c.in-Full.ensures))
+    listed_whole t (goal.at.largest-returns-in-Full t c).At-loop-i _ full (c.loop-i.invariant.whole _ full (c.in-Full.ensures))
 
 pub largest-with-had-requires : goal.largest-with-had-requires
 largest-with-had-requires t c = branching_small c.loop-i.invariant _ (picked t (goal.at.largest-with-had-requires t c).In-At)
@@ -1288,8 +1288,8 @@ largest-also-requires t c = search (rules, room_placed, room_kept)
 tried : (t : ℕ) (c : goal.core_of-In-At t) → member c.loop-i.rest c.in-At.i ≡ true
 tried t c = (c.in-At.ensures).here
 
-tried-small : (t : ℕ) (c : goal.core_of-In-At t) → c.in-At.i < 64
-tried-small t c =
+tried_small : (t : ℕ) (c : goal.core_of-In-At t) → c.in-At.i < 64
+tried_small t c =
     let a = c.args in
     let asked = c.requires in
     omega (arith, promise_below (problem_of a.entries.now a.q) (either (member a.low) (member a.free)) (a.depth - 1) asked.promising c.in-At.i (either_right (member a.low) (member a.free) c.in-At.i (c.loop-i.invariant.1 _ (tried t c))), asked.promising.few)
@@ -1309,7 +1309,7 @@ core_of-keeps-requires t c =
     )
 
 pub core_of-loop-i-smaller-then-not-keeps : goal.core_of-loop-i-smaller-then-not-keeps
-core_of-loop-i-smaller-then-not-keeps t c = rw c.without-rest.ensures (count_removed (member c.loop-i.rest) 64 (tried t (goal.at.core_of-loop-i-smaller-then-not-keeps t c).In-At) (tried-small t (goal.at.core_of-loop-i-smaller-then-not-keeps t c).In-At))
+core_of-loop-i-smaller-then-not-keeps t c = rw c.without-rest.ensures (count_removed (member c.loop-i.rest) 64 (tried t (goal.at.core_of-loop-i-smaller-then-not-keeps t c).In-At) (tried_small t (goal.at.core_of-loop-i-smaller-then-not-keeps t c).In-At))
 
 pub core_of-loop-i-preserved-then-not-keeps : goal.core_of-loop-i-preserved-then-not-keeps
 core_of-loop-i-preserved-then-not-keeps t c =
@@ -1326,7 +1326,7 @@ core_of-loop-i-preserved-then-not-keeps t c =
     )
 
 pub core_of-loop-i-smaller : goal.core_of-loop-i-smaller
-core_of-loop-i-smaller t c = rw c.without-rest.ensures (count_removed (member c.loop-i.rest) 64 (tried t (goal.at.core_of-loop-i-smaller t c).In-At) (tried-small t (goal.at.core_of-loop-i-smaller t c).In-At))
+core_of-loop-i-smaller t c = rw c.without-rest.ensures (count_removed (member c.loop-i.rest) 64 (tried t (goal.at.core_of-loop-i-smaller t c).In-At) (tried_small t (goal.at.core_of-loop-i-smaller t c).In-At))
 
 pub core_of-loop-i-preserved : goal.core_of-loop-i-preserved
 core_of-loop-i-preserved t c =
@@ -1345,17 +1345,17 @@ pub opposed-returns-in_default : goal.opposed-returns-in_default
 opposed-returns-in_default t c = record { answers = λ e. absurd (false≢true e); same = c.loop-i.invariant.3; memory = c.loop-i.invariant.4 }
 
 -- the two entries at hand
-first-in : (t : ℕ) (c : goal.opposed-In-At t) → member c.loop-i.needs c.in-At.i ≡ true
-first-in t c = (c.in-At.ensures).here
+first_in : (t : ℕ) (c : goal.opposed-In-At t) → member c.loop-i.needs c.in-At.i ≡ true
+first_in t c = (c.in-At.ensures).here
 
 first_below : (t : ℕ) (c : goal.opposed-In-At t) → c.in-At.i < length c.args.entries.now
-first_below t c = chosen_below c.requires c.loop-i.invariant.0 _ (first-in t c)
+first_below t c = chosen_below c.requires c.loop-i.invariant.0 _ (first_in t c)
 
-second-in : (t : ℕ) (c : goal.opposed-In-At-highest t) → member c.loop-i.limits c.in-At-highest.j ≡ true
-second-in t c = (c.in-At-highest.ensures).here
+second_in : (t : ℕ) (c : goal.opposed-In-At-highest t) → member c.loop-i.limits c.in-At-highest.j ≡ true
+second_in t c = (c.in-At-highest.ensures).here
 
 second_below : (t : ℕ) (c : goal.opposed-In-At-highest t) → c.in-At-highest.j < length c.args.entries.now
-second_below t c = chosen_below c.requires c.loop-i.invariant.1 _ (second-in t c)
+second_below t c = chosen_below c.requires c.loop-i.invariant.1 _ (second_in t c)
 
 pub opposed-exceeds-requires : goal.opposed-exceeds-requires
 opposed-exceeds-requires t c = (first_below t (goal.at.opposed-exceeds-requires t c).In-At, second_below t (goal.at.opposed-exceeds-requires t c).In-At-highest)
@@ -1364,14 +1364,14 @@ pub opposed-pair-requires : goal.opposed-pair-requires
 opposed-pair-requires t c = (omega (arith, first_below t (goal.at.opposed-pair-requires t c).In-At, c.requires.promising.few), omega (arith, second_below t (goal.at.opposed-pair-requires t c).In-At-highest, c.requires.promising.few))
 
 -- the limits that allow none
-kept-closed : (t : ℕ) (c : goal.opposed-After-intersection-base t)
+kept_closed : (t : ℕ) (c : goal.opposed-After-intersection-base t)
     → (i : ℕ) → member c.intersection-base.result i ≡ true → Closed (problem_of c.args.entries.now c.args.q) i
-kept-closed t c = λ i h. c.closed.ensures i (both_parts true (member c.closed.result i) _ (rw c.intersection-base.ensures at h)).0
+kept_closed t c = λ i h. c.closed.ensures i (both_parts true (member c.closed.result i) _ (rw c.intersection-base.ensures at h)).0
 
 -- they are asked for
-kept-all : (t : ℕ) (c : goal.opposed-After-intersection-base t)
+kept_all : (t : ℕ) (c : goal.opposed-After-intersection-base t)
     → Within (member c.intersection-base.result) (member c.args.all)
-kept-all t c = λ i h. (both_parts true (member c.closed.result i) _ (rw c.intersection-base.ensures at h)).1
+kept_all t c = λ i h. (both_parts true (member c.closed.result i) _ (rw c.intersection-base.ensures at h)).1
 
 pub opposed-keeps-requires : goal.opposed-keeps-requires
 opposed-keeps-requires t c =
@@ -1379,7 +1379,7 @@ opposed-keeps-requires t c =
     let loop = c.loop-i in (
       omega (arith, c.decreases),
       record {
-        promising = pair_asked asked _ _ _ _ _ c.pair.ensures c.union-both.ensures (kept-all t (goal.at.opposed-keeps-requires t c).After-intersection-base) (loop.invariant.0 _ (first-in t (goal.at.opposed-keeps-requires t c).In-At)) (loop.invariant.1 _ (second-in t (goal.at.opposed-keeps-requires t c).In-At-highest));
+        promising = pair_asked asked _ _ _ _ _ c.pair.ensures c.union-both.ensures (kept_all t (goal.at.opposed-keeps-requires t c).After-intersection-base) (loop.invariant.0 _ (first_in t (goal.at.opposed-keeps-requires t c).In-At)) (loop.invariant.1 _ (second_in t (goal.at.opposed-keeps-requires t c).In-At-highest));
         deep = asked.deep;
         room = room_kept loop.invariant.2 asked.room;
         memory = loop.invariant.4;
@@ -1392,13 +1392,13 @@ opposed-shape_of-work-then-not-keeps t c = c.learn_refuted.auto.work ∙ c.keeps
 pub opposed-returns-then-not-keeps : goal.opposed-returns-then-not-keeps
 opposed-returns-then-not-keeps t c =
     record {
-      answers = λ e. pair_opposed _ _ _ _ _ _ c.pair.ensures c.union-both.ensures (kept-closed t (goal.at.opposed-returns-then-not-keeps t c).After-intersection-base) (c.exceeds.ensures c.if-exceeds.true) (rw c.if-not-keeps.true at c.keeps.ensures.answers);
+      answers = λ e. pair_opposed _ _ _ _ _ _ c.pair.ensures c.union-both.ensures (kept_closed t (goal.at.opposed-returns-then-not-keeps t c).After-intersection-base) (c.exceeds.ensures c.if-exceeds.true) (rw c.if-not-keeps.true at c.keeps.ensures.answers);
       same = c.learn_refuted.ensures.same ∙ c.keeps.ensures.same ∙ c.loop-i.invariant.3;
       memory = c.learn_refuted.ensures.memory;
     }
 
 pub opposed-loop-i-smaller-else-not-keeps : goal.opposed-loop-i-smaller-else-not-keeps
-opposed-loop-i-smaller-else-not-keeps t c = rw c.without-limits.ensures (omega (arith, count_removed (member c.loop-i.limits) _ (second-in t (goal.at.opposed-loop-i-smaller-else-not-keeps t c).In-At-highest) (second_below t (goal.at.opposed-loop-i-smaller-else-not-keeps t c).In-At-highest)))
+opposed-loop-i-smaller-else-not-keeps t c = rw c.without-limits.ensures (omega (arith, count_removed (member c.loop-i.limits) _ (second_in t (goal.at.opposed-loop-i-smaller-else-not-keeps t c).In-At-highest) (second_below t (goal.at.opposed-loop-i-smaller-else-not-keeps t c).In-At-highest)))
 
 pub opposed-loop-i-preserved-else-not-keeps : goal.opposed-loop-i-preserved-else-not-keeps
 opposed-loop-i-preserved-else-not-keeps t c = (
@@ -1410,7 +1410,7 @@ opposed-loop-i-preserved-else-not-keeps t c = (
 )
 
 pub opposed-loop-i-smaller-else-exceeds : goal.opposed-loop-i-smaller-else-exceeds
-opposed-loop-i-smaller-else-exceeds t c = rw c.without-limits.ensures (omega (arith, count_removed (member c.loop-i.limits) _ (second-in t (goal.at.opposed-loop-i-smaller-else-exceeds t c).In-At-highest) (second_below t (goal.at.opposed-loop-i-smaller-else-exceeds t c).In-At-highest)))
+opposed-loop-i-smaller-else-exceeds t c = rw c.without-limits.ensures (omega (arith, count_removed (member c.loop-i.limits) _ (second_in t (goal.at.opposed-loop-i-smaller-else-exceeds t c).In-At-highest) (second_below t (goal.at.opposed-loop-i-smaller-else-exceeds t c).In-At-highest)))
 
 pub opposed-loop-i-preserved-else-exceeds : goal.opposed-loop-i-preserved-else-exceeds
 opposed-loop-i-preserved-else-exceeds t c = (c.loop-i.invariant.0, rw c.without-limits.ensures (within_removed _ c.loop-i.invariant.1), c.loop-i.invariant.2, c.loop-i.invariant.3, c.loop-i.invariant.4)
@@ -1418,7 +1418,7 @@ opposed-loop-i-preserved-else-exceeds t c = (c.loop-i.invariant.0, rw c.without-
 pub opposed-loop-i-smaller : goal.opposed-loop-i-smaller
 opposed-loop-i-smaller t c =
     rw c.without-needs.ensures
-    (omega (arith, count_removed (member c.loop-i.needs) _ (first-in t (goal.at.opposed-loop-i-smaller t c).In-At) (first_below t (goal.at.opposed-loop-i-smaller t c).In-At), count_le (member c.args.all) (length c.args.entries.now), c.requires.promising.few))
+    (omega (arith, count_removed (member c.loop-i.needs) _ (first_in t (goal.at.opposed-loop-i-smaller t c).In-At) (first_below t (goal.at.opposed-loop-i-smaller t c).In-At), count_le (member c.args.all) (length c.args.entries.now), c.requires.promising.few))
 
 pub opposed-loop-i-preserved : goal.opposed-loop-i-preserved
 opposed-loop-i-preserved t c = (rw c.without-needs.ensures (within_removed _ c.loop-i.invariant.0), λ i h. h, c.loop-i.invariant.2, c.loop-i.invariant.3, c.loop-i.invariant.4)
@@ -1428,7 +1428,7 @@ opposed-learn_refuted-requires t c =
     let promising = c.requires.promising in
     let refused : c.keeps.result ≡ false = cc in
     record {
-      none = pair_alone c.args.entries.now c.narrowed.ensures _ _ _ _ c.pair.ensures c.union-both.ensures (kept-closed t (goal.at.opposed-learn_refuted-requires t c).After-intersection-base) (c.exceeds.ensures c.if-exceeds.true) (rw refused at c.keeps.ensures.answers);
+      none = pair_alone c.args.entries.now c.narrowed.ensures _ _ _ _ c.pair.ensures c.union-both.ensures (kept_closed t (goal.at.opposed-learn_refuted-requires t c).After-intersection-base) (c.exceeds.ensures c.if-exceeds.true) (rw refused at c.keeps.ensures.answers);
       formed = promising.formed;
       small = record { few = promising.few; below = λ b i h. promising.below b i (narrowed_fewer c.narrowed.ensures b i h) };
       room = room_kept (c.keeps.auto.work ∙ c.loop-i.invariant.2) c.requires.room;
