@@ -29,7 +29,7 @@ use Rattle.satisfy.proofs.Calls.{ready_leaf, ready_bounded, promised_fit, counti
 use Rattle.tableau.proofs.Together.{together}
 use Rattle.promises.specs.Listing.{list_of}
 use Rattle.satisfy.specs.Largest.{ListingIs}
-use Rattle.satisfy.proofs.Largest.{either_fewer, either_right, code_above, added_within, removed_within, unfit_unkept, room_placed, lists_kept, listing_same, listing_from, listing_also, reaches_none, reaches_known, listing_covers, lists_none, listed_new, guess_memory, parts_within, parts_inside, either_left, narrowed_fewer, narrowed_solvable, branching_done, branching_small, branching_fewer, branching_promising, branching_next, room_list}
+use Rattle.satisfy.proofs.Largest.{core_whole, core_left, either_fewer, either_right, code_above, added_within, removed_within, unfit_unkept, room_placed, lists_kept, listing_same, listing_from, listing_also, reaches_none, reaches_known, listing_covers, lists_none, listed_new, guess_memory, parts_within, parts_inside, either_left, narrowed_fewer, narrowed_solvable, branching_done, branching_small, branching_fewer, branching_promising, branching_next, room_list}
 use Rattle.tableau.specs.Search.{asking, Fit}
 use Rattle.sets.proofs.Tests.{both_parts}
 use mathlib.Core.Logic.{⊎_elim}
@@ -1284,60 +1284,25 @@ largest-also-requires t c = search (rules, room_placed, room_kept)
 
 -- ---- core_of
 
--- the member that is tried to be left out
-tried : (t : ℕ) (c : goal.core_of-In-At t) → member c.loop-i.rest c.in-At.i ≡ true
-tried t c = (c.in-At.ensures).here
-
-tried_small : (t : ℕ) (c : goal.core_of-In-At t) → c.in-At.i < 64
-tried_small t c =
-    let a = c.args in
-    let asked = c.requires in
-    omega (arith, promise_below (problem_of a.entries.now a.q) (either (member a.low) (member a.free)) (a.depth - 1) asked.promising c.in-At.i (either_right (member a.low) (member a.free) c.in-At.i (c.loop-i.invariant.1 _ (tried t c))), asked.promising.few)
+pub core_of-loop-i-init : goal.core_of-loop-i-init
+core_of-loop-i-init t c = core_whole c.requires
 
 pub core_of-keeps-requires : goal.core_of-keeps-requires
 core_of-keeps-requires t c =
     let a = c.args in
     let asked = c.requires in
-    let inv = c.loop-i.invariant in (
+    let at = c.loop-i.invariant in (
       omega (arith, c.decreases),
       record {
-        promising = rw (c.union.ensures, c.without-fewer.ensures) (promising_fewer asked.promising (either_fewer (member a.low) _ (member a.free) (λ j h. inv.0 j (removed_within (member c.loop-i.core) c.in-At.i j h))));
+        promising = rw (c.union.ensures, c.without-fewer.ensures) (promising_fewer asked.promising (either_fewer (member a.low) _ (member a.free) (λ j h. at.within j (removed_within (member c.loop-i.core) c.in-At.i j h))));
         deep = asked.deep;
-        room = room_kept inv.3 asked.room;
-        memory = inv.5;
+        room = room_kept at.as_many asked.room;
+        memory = at.memory;
       },
     )
 
-pub core_of-loop-i-smaller-then-not-keeps : goal.core_of-loop-i-smaller-then-not-keeps
-core_of-loop-i-smaller-then-not-keeps t c = rw c.without-rest.ensures (count_removed (member c.loop-i.rest) 64 (tried t (goal.at.core_of-loop-i-smaller-then-not-keeps t c).In-At) (tried_small t (goal.at.core_of-loop-i-smaller-then-not-keeps t c).In-At))
-
-pub core_of-loop-i-preserved-then-not-keeps : goal.core_of-loop-i-preserved-then-not-keeps
-core_of-loop-i-preserved-then-not-keeps t c =
-    let a = c.args in
-    let inv = c.loop-i.invariant in
-    let P = problem_of a.entries.now a.q in
-    let unfit = rw c.if-not-keeps.true at c.keeps.ensures.answers in (
-      rw c.without-fewer.ensures (λ j h. inv.0 j (removed_within (member c.loop-i.core) c.in-At.i j h)),
-      rw c.without-rest.ensures (λ j h. inv.1 j (removed_within (member c.loop-i.rest) c.in-At.i j h)),
-      rw c.union.ensures at (unfit_unkept P c.union.result unfit),
-      c.keeps.auto.work ∙ inv.3,
-      c.keeps.ensures.same ∙ inv.4,
-      c.keeps.ensures.memory,
-    )
-
-pub core_of-loop-i-smaller : goal.core_of-loop-i-smaller
-core_of-loop-i-smaller t c = rw c.without-rest.ensures (count_removed (member c.loop-i.rest) 64 (tried t (goal.at.core_of-loop-i-smaller t c).In-At) (tried_small t (goal.at.core_of-loop-i-smaller t c).In-At))
-
-pub core_of-loop-i-preserved : goal.core_of-loop-i-preserved
-core_of-loop-i-preserved t c =
-    let inv = c.loop-i.invariant in (
-      inv.0,
-      rw c.without-rest.ensures (λ j h. inv.1 j (removed_within (member c.loop-i.rest) c.in-At.i j h)),
-      inv.2,
-      c.keeps.auto.work ∙ inv.3,
-      c.keeps.ensures.same ∙ inv.4,
-      c.keeps.ensures.memory,
-    )
+pub core_of-returns-in_default : goal.core_of-returns-in_default
+core_of-returns-in_default t c = core_left c.requires c.loop-i.invariant
 
 -- ---- opposed
 

@@ -33,7 +33,7 @@ use Prim.Native.Nat.{◌+◌, ◌-◌, ◌*◌}
 use mathlib.Core.Path.{◌≡◌}
 use lib.ListN.{length, take}
 use Rattle.semantics.specs.Count.{count}
-use Rattle.sets.specs.Set.{member, Within, either}
+use Rattle.sets.specs.Set.{member, Within}
 use Rattle.wide.specs.Wide.{wide_in}
 use Rattle.counting.specs.Question.{problem_of}
 use Rattle.counting.specs.Search.{At, to_do}
@@ -41,8 +41,7 @@ use Rattle.cases.specs.Levels.{Remembers, list_room}
 use Rattle.satisfy.specs.Asking.{Solving}
 use Rattle.satisfy.proofs.Worlds.{Remaining}
 use Rattle.promises.specs.Listing.{Lists, FitList}
-use Rattle.satisfy.specs.Largest.{Unkept}
-use Rattle.satisfy.proofs.Largest.{Branching}
+use Rattle.satisfy.proofs.Largest.{Shrunk, Branching}
 use Rattle.tableau.specs.Search.{asking}
 use Rattle.table.specs.Space.{sum_of_grades}
 use Rattle.satisfy.specs.Greedy.{FitIfAny, Taken}
@@ -195,7 +194,7 @@ decreases-largest-loop-i l = count (member l.core) 64
 
 abbrev pub invariant-core_of-loop-i : goal.invariant-core_of-loop-i
 invariant-core_of-loop-i l =
-    Within (member l.core) (member l.initial.core) × Within (member l.rest) (member l.initial.core) × Unkept (problem_of l.entries l.q) (either (member l.low) (member l.core)) × (length l.work ≡ length l.initial.work) × (take l.level l.work ≡ take l.level l.initial.work) × Remembers (wide_in l.entries) l.depth l.level l.work
+    Shrunk (problem_of l.entries l.q) (member l.low) (member l.initial.core) l.depth l.level l.initial.work (member l.core) (member l.rest) l.work
 
 abbrev pub decreases-core_of-loop-i : goal.decreases-core_of-loop-i
 decreases-core_of-loop-i l = count (member l.rest) 64
