@@ -47,7 +47,7 @@ use Rattle.satisfy.proofs.Alone.{relation_recalled, relation_told}
 use Rattle.cases.proofs.Splitting.{ready_wider}
 use Rattle.promises.specs.declared.listing.Listing.{Listing}
 use Rattle.satisfy.proofs.world.+all_met_anew_by_all_by_few_by_list_by_more_column_columns_core_of_deeper_extend_greedy_grown_grown_by_keeps_largest_leaf_lists_one_met_opposed_probe_refute_seed_solve_world.Goals as goal
-use Rattle.satisfy.proofs.world.+all_met_anew_by_all_by_few_by_list_by_more_column_columns_core_of_deeper_extend_greedy_grown_grown_by_keeps_largest_leaf_lists_one_met_opposed_probe_refute_seed_solve_world.Goals.{all_met-After-asking-all, all_met-In-At, anew-In-At, by_list-After-minus, column-In-At, columns-After-also, core_of-In-At, deeper-In-Settled, extend-In-At, greedy-After-grown-set, greedy-After-intersection-full, greedy-At-loop-q, greedy-Else-m-eq0, grown_by-After-with-more, grown_by-In-At, largest-At-loop-i, largest-In-At, leaf-Else-not-all_met, opposed-After-intersection-base, opposed-In-At, opposed-In-At-highest, probe-After-keeps, probe-After-search, probe-After-skip-at, probe-After-take-at, probe-In-Ask, refute-After-narrowed-p, world-In-At, world-In-Settled, world-In_Settled-one, world-Joined-branch, world-Joined-top-eq-ALL, world-else-top-eq-ALL, world-in_Settled-one+else-world, world-in_default-one, world-then-top-eq-ALL+else-not-all_met}
+use Rattle.satisfy.proofs.world.+all_met_anew_by_all_by_few_by_list_by_more_column_columns_core_of_deeper_extend_greedy_grown_grown_by_keeps_largest_leaf_lists_one_met_opposed_probe_refute_seed_solve_world.Goals.{all_met-After-asking-all, all_met-In-At, anew-In-At, by_list-After-minus, column-In-At, columns-After-also, deeper-In-Settled, extend-In-At, greedy-After-grown-set, greedy-After-intersection-full, greedy-At-loop-q, greedy-Else-m-eq0, grown_by-After-with-more, grown_by-In-At, largest-At-loop-i, largest-In-At, leaf-Else-not-all_met, opposed-After-intersection-base, opposed-In-At, opposed-In-At-highest, probe-After-keeps, probe-After-search, probe-After-skip-at, probe-After-take-at, probe-In-Ask, refute-After-narrowed-p, world-In-At, world-In-Settled, world-In_Settled-one, world-Joined-branch, world-Joined-top-eq-ALL, world-else-top-eq-ALL, world-in_Settled-one+else-world, world-in_default-one, world-then-top-eq-ALL+else-not-all_met}
 
 -- ---- world
 
@@ -1391,7 +1391,7 @@ opposed-loop-i-preserved t c = (rw c.without-needs.ensures (within_removed _ c.l
 pub opposed-learn_refuted-requires : goal.opposed-learn_refuted-requires
 opposed-learn_refuted-requires t c =
     let promising = c.requires.promising in
-    let refused : c.keeps.result ≡ false = cc in
+    let refused : c.keeps.result ≡ false = assumption in
     record {
       none = pair_alone c.args.entries.now c.narrowed.ensures _ _ _ _ c.pair.ensures c.union-both.ensures (kept_closed t (goal.at.opposed-learn_refuted-requires t c).After-intersection-base) (c.exceeds.ensures c.if-exceeds.true) (rw refused at c.keeps.ensures.answers);
       formed = promising.formed;
