@@ -13,7 +13,7 @@ use Rattle.selection.proofs.Varying.{Without, without_varying, without_more, var
 use Rattle.selection.proofs.Varying.{selecting_next, selected_risen, risen_varying, selected_fallen}
 use Rattle.selection.proofs.Swapping.{swapped_selecting, selected_back}
 use Rattle.selection.proofs.+branch_fall_rise_select_tried_vary.Goals as goal
-use Rattle.selection.proofs.+branch_fall_rise_select_tried_vary.Goals.{fall-Else-tried, rise-Else-tried, select-Else-k-eq0}
+use Rattle.selection.proofs.+branch_fall_rise_select_tried_vary.Goals.{fall-Else-tried, rise-Else-tried}
 
 -- ---- branch
 
@@ -152,13 +152,10 @@ select-seen-requires t c =
     let a = c.args in
     selecting_relaxing a.entries.now a.q c.requires
 
--- there is a set left
-some_left : (t : ℕ) (c : goal.select-Else-k-eq0 t) → suc (c.args.k - 1) ≡ c.args.k
-some_left t c = omega (arith, c.if-k-eq0.false)
-
 pub select-branch-entries-requires : goal.select-branch-entries-requires
 select-branch-entries-requires t c =
-    (omega (arith, some_left t (goal.at.select-branch-entries-requires t c).Else-k-eq0), rw (some_left t (goal.at.select-branch-entries-requires t c).Else-k-eq0) (selecting_seen c.requires c.seen.ensures c.seen.auto.words))
+    let left : suc (c.args.k - 1) ≡ c.args.k = omega arith in
+    (omega arith, rw left (selecting_seen c.requires c.seen.ensures c.seen.auto.words))
 
 pub select-returns-in-Refuted : goal.select-returns-in-Refuted
 select-returns-in-Refuted t c = selected_refuted c.requires (c.in-Refuted.ensures)
@@ -168,7 +165,8 @@ select-returns-in-Solved t c = selected_solved c.requires (c.in-Solved.ensures)
 
 pub select-returns-in-Unknown : goal.select-returns-in-Unknown
 select-returns-in-Unknown t c =
-    selected_seen c.requires c.seen.ensures c.branch-entries.result (rw (some_left t (goal.at.select-returns-in-Unknown t c).Else-k-eq0) at c.branch-entries.ensures)
+    let left : suc (c.args.k - 1) ≡ c.args.k = omega arith in
+    selected_seen c.requires c.seen.ensures c.branch-entries.result (rw left at c.branch-entries.ensures)
 
 -- ---- tried
 
