@@ -6,7 +6,7 @@ use mathlib.Core.Bool.{Bool, true, false, not, ◌||◌, false≢true}
 use mathlib.Core.List.{List}
 use Prim.Native.Nat.{ℕ, suc, ◌+◌, ◌-◌, ◌*◌, ◌<◌, ◌≤◌, zero-le}
 use native.Mathlib.Nat.{suc-mul}
-use native.Mathlib.Decide.{ℕ_discrete, dec_lt}
+use native.Mathlib.Decide.{ℕ_discrete}
 use native.Mathlib.Omega.{arith}
 use lib.ListN.{length, take}
 use lib.Dec.{eqb}
@@ -37,7 +37,7 @@ use Rattle.promises.specs.Listing.{Placed, list_of, AlsoIs, AlsoNew, Lists, FitL
 use Rattle.promises.proofs.Promises.{promise_below, promising_fewer}
 use Rattle.promises.proofs.Lent.{list_kept}
 use Rattle.satisfy.specs.Greedy.{FitIfAny}
-use Rattle.satisfy.specs.Largest.{Unkept, Reaches, ListedMore, ListingIs, CoreAsked, CoreIs, GuessIs}
+use Rattle.satisfy.specs.Largest.{Unkept, Reaches, ListedMore, ListingIs, GuessIs}
 use Rattle.satisfy.proofs.Worlds.{room_level}
 
 -- ---- sets
@@ -82,7 +82,7 @@ removed_made p i j off h = rw (ne_eqb j i off, h) refl
 -- ---- what cannot be kept
 
 -- what a row promises that may stand in a solution is fit
-fit_set : (P : Problem) (s : Set) {row : Row} → FitRow P row → Within (member s) row.promises → Fit P (code s)
+pub fit_set : (P : Problem) (s : Set) {row : Row} → FitRow P row → Within (member s) row.promises → Fit P (code s)
 unfolding member
 fit_set P s fit within = record { within = λ i h. fit.within i (within i h); feasible = feasible_fewer within fit.feasible }
 
@@ -203,46 +203,6 @@ core_had P low core i = unkept_more P (had low core i (either low core) (λ j h.
 reaches_unkept : (P : Problem) (low core high : ℕ → Bool) (list : List ℕ) → core ≡ nothing → Unkept P (either low core) → Reaches P low high list
 reaches_unkept P low core high list empty none row fit above below i asks promised =
     absurd (none row fit (either_made low core above (λ j h. absurd (false≢true (ap (λ (p : ℕ → Bool). p j) (sym empty) ∙ h)))))
-
--- That these cannot all be kept was given, or a set of just these was found not to be fit. Written as that it can't be otherwise: so the
--- check's own search closes the goals of `core_of`, and none has an answer by the name of the test.
-abbrev pub Refused : Problem → (ℕ → Bool) → Type 0
-Refused P p = (Unkept P p → ⊥) → ((s : Set) → member s ≡ p → Fit P (code s)) → ⊥
-
-refused_unkept : (P : Problem) {p : ℕ → Bool} → Refused P p → Unkept P p
-refused_unkept P refused row fit within = refused (λ none. none row fit within) (λ s e. fit_set P s fit (rw e within))
-
--- A core is left of `free`, which cannot be kept beside `low`; the members of `rest` are still to be tried.
-pub record Shrunk (P : Problem) (low free : ℕ → Bool) (depth level : ℕ) (before : List ℕ) (core rest : ℕ → Bool) (work : List ℕ) : Type 0 where
-  pub small : (i : ℕ) → free i ≡ true → i < 64
-  pub within : Within core free
-  pub untried : Within rest free
-  pub refused : Refused P (either low core)
-  pub as_many : length work ≡ length before
-  pub same : take level work ≡ take level before
-  pub memory : Remembers P.entry depth level work
-
-module _ {P : Problem} {low free : ℕ → Bool} {depth level : ℕ} {before : List ℕ} (asked : CoreAsked P low free depth level before) where
-  pub core_whole : Shrunk P low free depth level before free free before
-  core_whole =
-      record {
-        small = λ i h. omega (arith, promise_below P (either low free) (depth - 1) asked.promising i (either_right low free i h), asked.promising.few);
-        within = λ i h. h;
-        untried = λ i h. h;
-        refused = λ given found. given asked.unkept;
-        as_many = refl;
-        same = refl;
-        memory = asked.memory;
-      }
-
-  pub core_left : {core rest : ℕ → Bool} {work : List ℕ} → Shrunk P low free depth level before core rest work → CoreIs P low free core depth level before work
-  core_left at = record { within = at.within; unkept = refused_unkept P at.refused; same = at.same; memory = at.memory }
-
--- what is left without some member, whichever it is, has fewer; in this form the check's search finds the member
-pub fewer_left : (rest left : ℕ → Bool) → ((i : ℕ) → rest i ≡ true → i < 64) → (((i : ℕ) → rest i ≡ true → left ≡ removed rest i → ⊥) → ⊥) → count left 64 < count rest 64
-fewer_left rest left small some =
-    by_cases (dec_lt (count left 64) (count rest 64)) (λ l. l)
-    (λ more. absurd (some (λ i here is. more (rw is (count_removed rest 64 here (small i here))))))
 
 -- The members of `core`, a part of `rest`, cannot all be kept beside `had`: what is listed for `had` and `rest` makes up the list for `low`
 -- and `free`.

@@ -8,6 +8,8 @@ pub mod Alone
 pub mod Greedy
 -- how the largest sets of promises come to be listed
 pub mod Largest
+-- a core of a set of promises that cannot be kept
+pub mod Cores
 -- what the functions that call each other hand to each other
 pub mod Calls
 -- the question through two sets

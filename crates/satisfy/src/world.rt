@@ -651,7 +651,7 @@ fn largest(
 
 // A part of `free` that cannot be kept beside `low`, where all of it cannot (known as an unsatisfiable core): members are left out
 // as long as that is so.
-#[tactic(auto, using(crate::proofs::Largest::fewer_left))]
+#[tactic(auto, using(crate::proofs::Cores::fewer_left))]
 #[cycle(all_met_anew_by_all_by_few_by_list_by_more_column_columns_core_of_deeper_extend_greedy_grown_grown_by_keeps_largest_leaf_lists_one_met_opposed_probe_refute_seed_solve_world)]
 fn core_of(
     entries: &[u64],

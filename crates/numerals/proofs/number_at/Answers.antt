@@ -1,3 +1,5 @@
+-- `number_at` meets its contract: the loop reads digits as far as there are any. What is returned behind a first digit the search finds, by
+-- the lemmas of Digits.antt.
 use native.Mathlib.Omega.{arith}
 use Rattle.numerals.proofs.Digits.{start, another, more, no_digit}
 use borrow.Author.Rules.{rules}

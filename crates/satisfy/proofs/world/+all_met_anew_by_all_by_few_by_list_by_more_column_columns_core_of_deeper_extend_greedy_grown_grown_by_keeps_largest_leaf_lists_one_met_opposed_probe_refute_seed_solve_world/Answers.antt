@@ -29,7 +29,8 @@ use Rattle.satisfy.proofs.Calls.{ready_leaf, ready_bounded, promised_fit, counti
 use Rattle.tableau.proofs.Together.{together}
 use Rattle.promises.specs.Listing.{list_of}
 use Rattle.satisfy.specs.Largest.{ListingIs}
-use Rattle.satisfy.proofs.Largest.{core_whole, core_left, either_fewer, either_right, code_above, added_within, removed_within, unfit_unkept, room_placed, lists_kept, listing_same, listing_from, listing_also, reaches_none, reaches_known, listing_covers, lists_none, listed_new, guess_memory, parts_within, parts_inside, either_left, narrowed_fewer, narrowed_solvable, branching_done, branching_small, branching_fewer, branching_promising, branching_next, room_list}
+use Rattle.satisfy.proofs.Cores.{core_whole, core_left}
+use Rattle.satisfy.proofs.Largest.{either_fewer, either_right, code_above, added_within, removed_within, unfit_unkept, room_placed, lists_kept, listing_same, listing_from, listing_also, reaches_none, reaches_known, listing_covers, lists_none, listed_new, guess_memory, parts_within, parts_inside, either_left, narrowed_fewer, narrowed_solvable, branching_done, branching_small, branching_fewer, branching_promising, branching_next, room_list}
 use Rattle.tableau.specs.Search.{asking, Fit}
 use Rattle.sets.proofs.Tests.{both_parts}
 use mathlib.Core.Logic.{⊎_elim}

@@ -5,7 +5,7 @@
 -- memory says of it. All that is above asks about promises through `keeps` alone.
 -- `grown`, `grown_by`, `column`, `seed`: only what `keeps` said yes to is in a set, so the set can be kept. `columns`, `extend`: so can each listed set.
 -- `greedy`, `anew`: yes only with a stack that is a solution. `opposed`: yes only for a pair that excludes each other (Pairs).
--- `core_of`: what is left of a set that cannot be kept cannot be kept either. `largest`: so a set that can be kept leaves out a member of the core; the
+-- `core_of`: what is left of a set that cannot be kept cannot be kept either (Cores). `largest`: so a set that can be kept leaves out a member of the core; the
 -- branches, one a member, list all the largest sets (Largest).
 -- `by_list`: the listed sets stand for all, so a solution is among them or there is none. `refute`: some needs and limits have none, so all have none.
 -- `by_all`, `by_few`, `by_more`, `lists`: yes and no as those say, or nothing. `probe`: the search that asks `keeps` as it goes is complete by itself.
@@ -41,7 +41,8 @@ use Rattle.cases.specs.Levels.{Remembers, list_room}
 use Rattle.satisfy.specs.Asking.{Solving}
 use Rattle.satisfy.proofs.Worlds.{Remaining}
 use Rattle.promises.specs.Listing.{Lists, FitList}
-use Rattle.satisfy.proofs.Largest.{Shrunk, Branching}
+use Rattle.satisfy.proofs.Cores.{Shrunk}
+use Rattle.satisfy.proofs.Largest.{Branching}
 use Rattle.tableau.specs.Search.{asking}
 use Rattle.table.specs.Space.{sum_of_grades}
 use Rattle.satisfy.specs.Greedy.{FitIfAny, Taken}
