@@ -1,55 +1,29 @@
 // A case: one call of `hurnavis::board`, its number and every word compared with what document 01 gives.
-use crate::records::{Packed, Records};
+use crate::records::Records;
 use crate::rows::{Rows, Words, before};
-use vectors::entries::Room;
+use faults::Numbered;
 use vectors::tally::Tally;
-
-// The first place where two lists of words differ, 66 where they do not.
-fn difference(a: Words, b: Words) -> usize {
-    for i in 0..66 {
-        if a[i] != b[i] {
-            return i;
-        }
-    }
-    66
-}
 
 // Counts a case by its words: the first that differs is reported with its place.
 fn compare(tally: Tally, got: Words, expected: Words) -> Tally {
-    let i = difference(got, expected);
-    if 66 <= i {
-        return tally.case(0, 0);
+    for (i, word) in got.iter().enumerate() {
+        if *word != expected[i] {
+            tally.word(i);
+            return tally.case(*word, expected[i]);
+        }
     }
-    tally.word(i);
-    tally.case(got[i], expected[i])
+    tally.case(0, 0)
 }
 
-// The number of a call on the first bytes of a structure. Here and below, more than there is gives 255, which no case
-// expects.
-fn on_structure(table: &[u8], structure: Packed, bytes: usize, words: &mut [u64]) -> u8 {
-    if 3075 < bytes {
-        return 255;
-    }
-    let verdict = hurnavis::board(table, &structure[..bytes], words);
-    verdict.number()
-}
-
-// The same on the first bytes of a table.
-fn on_table(table: Room, bytes: usize, records: Records, words: &mut [u64]) -> u8 {
-    if 260 < bytes {
-        return 255;
-    }
-    let structure = records.bytes;
-    on_structure(&table[..bytes], structure, records.length, words)
-}
-
-// The same with the first `lent` words lent.
+// The number of a call with the first `lent` words lent. More bytes or words than there are give 255, which no case expects.
 fn call(rows: Rows, records: Records, words: &mut [u64], lent: usize) -> u8 {
-    if words.len() < lent {
+    let table = rows.table.get(..rows.bytes);
+    let structure = records.bytes.get(..records.length);
+    let (Some(table), Some(structure), Some(words)) = (table, structure, words.get_mut(..lent))
+    else {
         return 255;
-    }
-    let table = rows.table;
-    on_table(table, rows.bytes, records, &mut words[..lent])
+    };
+    hurnavis::board(table, structure, words).number()
 }
 
 // A case that lends so many words. A refusal leaves all of them as before.
@@ -57,13 +31,13 @@ pub fn lends(tally: Tally, rows: Rows, records: Records, lent: usize, expected: 
     let mut words = before();
     let got = call(rows, records, &mut words, lent);
     if got != expected {
-        return tally.case(got as u64, expected as u64);
+        return tally.case(u64::from(got), u64::from(expected));
     }
-    if expected == 0 {
-        let filled = rows.words;
-        return compare(tally, words, filled);
-    }
-    compare(tally, words, before())
+    compare(
+        tally,
+        words,
+        if expected == 0 { rows.words } else { before() },
+    )
 }
 
 // A case that is answered, with words to spare.

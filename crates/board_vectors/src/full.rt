@@ -141,8 +141,8 @@ fn path() -> Records {
 // Entry i, from 1 on, in a chain of "at least 1" over fact 1: true where i links lead to world 63.
 fn with_least(rows: Rows, i: u32) -> Rows {
     rows.entry(
-        at_least(1, 7, std::num::wrapping_sub_u32(i, 1)),
-        only(std::num::wrapping_sub_u32(63, i)),
+        at_least(1, 7, i.wrapping_sub(1)),
+        only(63u32.wrapping_sub(i)),
     )
 }
 
@@ -158,7 +158,7 @@ fn least_chain() -> Rows {
 // 63, 61, 59 and so on, one more with every second entry. The next is true but at the worlds that lead to these, and the
 // one after it where nothing leads on to such a world.
 fn with_most(rows: Rows, first: u32, seen: u64) -> Rows {
-    let second = std::num::wrapping_add_u32(first, 1);
+    let second = first.wrapping_add(1);
     rows.entry(at_most(0, 7, first), ALL - seen / 2)
         .entry(at_most(0, 7, second), seen / 4 | WORLD_63)
 }

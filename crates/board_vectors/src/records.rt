@@ -12,7 +12,7 @@ pub struct Records {
 
 // The 24 bits of the records of each kind. A header has the number of worlds, packed less 1.
 pub fn header(worlds: u32) -> u32 {
-    std::num::wrapping_sub_u32(worlds, 1) % 64 * 0x1_0000
+    worlds.wrapping_sub(1) % 64 * 0x1_0000
 }
 
 pub fn fact_record(world: u32, name: u32) -> u32 {
@@ -43,11 +43,9 @@ impl Records {
         if 3072 < at {
             return self;
         }
-        bytes[at] = (bits / 0x1_0000 % 256) as u8;
-        bytes[at + 1] = (bits / 0x100 % 256) as u8;
-        bytes[at + 2] = (bits % 256) as u8;
+        bytes[at..at + 3].copy_from_slice(&bits.to_be_bytes()[1..]);
         Records {
-            bytes: bytes,
+            bytes,
             length: at + 3,
         }
     }
@@ -62,15 +60,11 @@ impl Records {
 
     // A link of 1 to 4 copies.
     pub fn links(self, from: u32, relation: u32, to: u32, copies: u32) -> Records {
-        self.record(link_record(from, relation, to) | std::num::wrapping_sub_u32(copies, 1) % 4)
+        self.record(link_record(from, relation, to) | copies.wrapping_sub(1) % 4)
     }
 
     // The same bytes, so many of them.
     pub fn cut(self, length: usize) -> Records {
-        let bytes = self.bytes;
-        Records {
-            bytes: bytes,
-            length: length,
-        }
+        Records { length, ..self }
     }
 }

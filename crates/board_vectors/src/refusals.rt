@@ -96,13 +96,11 @@ pub fn misplaced(before: Tally) -> Tally {
     answers(tally, true_at(7), Records::of(3).fact(0, 1).link(0, 7, 1))
 }
 
-// A record, behind others, with each of its lowest bits set alone, from `highest` down.
-fn zero_bit_cases(before: Tally, others: Records, bits: u32, highest: u32) -> Tally {
+// A record, behind others, with each of its lowest bits set alone, so many of them, from the highest down.
+fn zero_bit_cases(before: Tally, others: Records, bits: u32, lowest: u32) -> Tally {
     let mut tally = before;
-    let mut bit = highest;
-    while 0 < bit {
-        tally = refused(tally, others.record(bits | bit), 7);
-        bit = bit / 2;
+    for i in (0..lowest).rev() {
+        tally = refused(tally, others.record(bits | 1 << (i % 32)), 7);
     }
     tally
 }
@@ -111,13 +109,13 @@ fn zero_bit_cases(before: Tally, others: Records, bits: u32, highest: u32) -> Ta
 pub fn zero_bits(before: Tally) -> Tally {
     let three = Records::of(3);
     let mut tally = before.subject(4000);
-    tally = zero_bit_cases(tally, Records::none(), header(3), 0x8000);
+    tally = zero_bit_cases(tally, Records::none(), header(3), 16);
     tally = answers(
         tally,
         true_at(15),
         Records::none().record(header(3) | 0x1_0000),
     );
-    tally = zero_bit_cases(tally, three, fact_record(1, 2), 0x80);
+    tally = zero_bit_cases(tally, three, fact_record(1, 2), 8);
     tally = answers(tally, true_at(7), three.record(fact_record(1, 2) | 0x100));
     tally = answers(tally, true_at(7), three.record(link_record(1, 7, 2) | 1));
     tally = answers(tally, true_at(7), three.record(link_record(1, 7, 2) | 2));
@@ -136,7 +134,7 @@ fn outside(before: Tally, worlds: u32, world: u32) -> Tally {
 
 // Fact 1 at the last world, whose word is `top`, and a link by 7 from it to itself.
 fn inside(tally: Tally, worlds: u32, all: u64, top: u64) -> Tally {
-    let last = std::num::wrapping_sub_u32(worlds, 1);
+    let last = worlds.wrapping_sub(1);
     let records = Records::of(worlds)
         .fact(last, 1)
         .link(last, 7, last)
@@ -160,7 +158,7 @@ pub fn worlds(before: Tally) -> Tally {
     let mut tally = before.subject(5000);
     let mut all: u64 = 0;
     for worlds in 1..65 {
-        all = std::num::wrapping_add_u64(std::num::wrapping_add_u64(all, all), 1);
+        all = all.wrapping_add(all).wrapping_add(1);
         tally = world_cases(tally, worlds, all);
     }
     tally
@@ -180,21 +178,9 @@ fn space_cases(before: Tally, entries: usize) -> Tally {
     let rows = true_entries(entries);
     let one = Records::of(1);
     let mut tally = lends(before, rows, one, 0, 10);
-    tally = lends(
-        tally,
-        rows,
-        one,
-        std::num::wrapping_sub_usize(entries, 1),
-        10,
-    );
+    tally = lends(tally, rows, one, entries.wrapping_sub(1), 10);
     tally = lends(tally, rows, one, entries, 0);
-    lends(
-        tally,
-        rows,
-        one,
-        std::num::wrapping_add_usize(entries, 1),
-        0,
-    )
+    lends(tally, rows, one, entries.wrapping_add(1), 0)
 }
 
 pub fn space(before: Tally) -> Tally {

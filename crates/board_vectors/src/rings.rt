@@ -33,12 +33,8 @@ fn with_facts() -> Records {
 fn with_links(before: Records, world: u32, relation: u32) -> Records {
     let mut records = before;
     for step in 1..6 {
-        if step <= std::num::wrapping_add_u32(relation, 1) {
-            records = records.link(
-                world,
-                relation,
-                std::num::wrapping_add_u32(world, step) % 64,
-            );
+        if step <= relation.wrapping_add(1) {
+            records = records.link(world, relation, world.wrapping_add(step) % 64);
         }
     }
     records
@@ -77,11 +73,7 @@ fn least(part: u64, worlds: u32, grade: u32) -> u64 {
 // Entry i, from 1 on: grades up to 6, at least in turn with at most, over fact 0 or, for every third entry, over the one
 // before it, whose word is `last`.
 fn with_entry(rows: Rows, i: u32, last: u64) -> Rows {
-    let first = if i % 3 == 0 {
-        std::num::wrapping_sub_u32(i, 1)
-    } else {
-        0
-    };
+    let first = if i % 3 == 0 { i.wrapping_sub(1) } else { 0 };
     let part = if i % 3 == 0 { last } else { FACT };
     let worlds = i % 5 + 1;
     if i % 2 == 0 {

@@ -1,4 +1,5 @@
 // The entries of a table, and beside each the word that the board is to have for it.
+use std::array;
 use vectors::entries::{Room, put};
 
 // The words lent at the most: two more than the entries of the longest table.
@@ -6,11 +7,7 @@ pub type Words = [u64; 66];
 
 // What stands in the lent words before a call: no two alike, and none that a case expects.
 pub fn before() -> Words {
-    let mut words = [0u64; 66];
-    for i in 0..66 {
-        words[i] = 0xb1d3_5a69_0f27_c400 + i as u64;
-    }
-    words
+    array::from_fn(|i| 0xb1d3_5a69_0f27_c400 + i as u64)
 }
 
 // The first `bytes` bytes are the table. `words` is what the lent words are to be after an answer: those behind the
@@ -42,20 +39,14 @@ impl Rows {
         put(&mut table, i, entry);
         words[i] = word;
         Rows {
-            table: table,
+            table,
             bytes: 4 * i + 4,
-            words: words,
+            words,
         }
     }
 
     // The same bytes, so many of them.
     pub fn cut(self, bytes: usize) -> Rows {
-        let table = self.table;
-        let words = self.words;
-        Rows {
-            table: table,
-            bytes: bytes,
-            words: words,
-        }
+        Rows { bytes, ..self }
     }
 }

@@ -8,6 +8,7 @@ use native.Mathlib.Nat.{le_trans}
 use native.Mathlib.Omega.{arith}
 use lib.Dec.{eqb}
 use borrow.Author.Tests.{not-true, eqb-true}
+use Rattle.std.specs.Prelude.{Option, Some, None}
 use Rattle.semantics.specs.Count.{count}
 use Rattle.semantics.specs.Structure.{Structure}
 use Rattle.semantics.proofs.Count.{count_mono}
@@ -22,8 +23,7 @@ use Rattle.tableau.proofs.Rules.{not_rule}
 use Rattle.memory.specs.declared.learnt.Ruled.{Ruled}
 use Rattle.memory.specs.Learnt.{RuledIs}
 use Rattle.wants.specs.declared.Wants.{Wants}
-use Rattle.wants.specs.declared.Outcome.{Outcome}
-use Rattle.wants.specs.Outcome.{wanted_w, Asked, OutcomeIs, Lightened}
+use Rattle.wants.specs.Outcome.{wanted_w, Refuted, Asked, Taken, Lightened}
 use Rattle.sets.proofs.Members.{count_removed}
 use Rattle.cases.specs.World.{SatW, serving, Ready, Waiting}
 use Rattle.cases.specs.Force.{Shown, RuledFor, Forced, ForcedIs}
@@ -110,31 +110,30 @@ module _ {entry : ℕ → Entry} {n d bound depth : ℕ} {w : Wants} (at : Waiti
     part_has v b h =
         ⊎_elim (λ (e : i ≡ (entry d).first). rw (← e, h) refl) (λ (e : i ≡ (entry d).second). rw (← e, h, or-true) refl) part
 
-    pub forced_part : Shown entry (serving entry d) i w → (o r : Outcome) → OutcomeIs entry n (serving entry d) i w o → Lightened d o r
-        → ForcedIs entry n w bound depth r
-    forced_part shown (Outcome.Settled v) (Outcome.Settled u) taken light = record {
+    pub forced_part : Shown entry (serving entry d) i w → {v u : Wants} → Taken entry n (serving entry d) i w v → Lightened d v u → Forced entry n w bound depth u
+    forced_part shown {v} {u} taken light = record {
       ready = light_ready at v u light taken.settled (part_has v (serving entry d) taken.has)
           (λ j h other. ⊎_elim (at.ready.pending_below j) (λ (l : j ≤ i). omega (arith, part_below, at.ready.pending_below d at.here)) (taken.pending_new j h))
           (λ c j h. ⊎_elim (at.ready.shallow c j) (λ (l : depth_at entry j ≤ depth_at entry i). le_trans l part_flat) (taken.no_deeper c j h));
       sound = light_sound at v u light taken.grows;
       complete = λ s x inside m. rw (light.0, light.1) (taken.meets s x m (shown s x inside m));
     }
-    forced_part shown (Outcome.Settled v) Outcome.Clash taken light = absurd light
-    forced_part shown Outcome.Clash (Outcome.Settled u) clash light = absurd light
-    forced_part shown Outcome.Clash Outcome.Clash clash light = λ s x inside m. clash s x m (shown s x inside m)
+
+    pub forced_clash : Shown entry (serving entry d) i w → Refuted entry (serving entry d) i w → ForcedIs entry n w bound depth None
+    forced_clash shown clash s x inside m = clash s x m (shown s x inside m)
 
 module _ {entry : ℕ → Entry} {n bound depth : ℕ} {w : Wants} where
   pub forced_none : Ready entry n w bound depth → Forced entry n w bound depth w
   forced_none ready = record { ready = ready; sound = λ s u m. m; complete = λ s u inside m. m }
 
   -- one step after the other
-  pub forced_next : {v : Wants} → Forced entry n w bound depth v → (r : Outcome) → ForcedIs entry n v bound depth r → ForcedIs entry n w bound depth r
-  forced_next one (Outcome.Settled u) two = record {
+  pub forced_next : {v : Wants} → Forced entry n w bound depth v → (r : Option Wants) → ForcedIs entry n v bound depth r → ForcedIs entry n w bound depth r
+  forced_next one (Some u) two = record {
     ready = two.ready;
     sound = λ s x m. one.sound s x (two.sound s x m);
     complete = λ s x inside m. two.complete s x inside (one.complete s x inside m);
   }
-  forced_next one Outcome.Clash clash = λ s x inside m. clash s x inside (one.complete s x inside m)
+  forced_next one None clash = λ s x inside m. clash s x inside (one.complete s x inside m)
 
   -- a world that is as the one wants is as the other does
   pub forced_back : {v : Wants} → Forced entry n w bound depth v → SatW entry v → SatW entry w

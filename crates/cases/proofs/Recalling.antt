@@ -1,37 +1,21 @@
 -- The answers that are kept behind the levels, where the words of a level are lent and where the rest is lent on.
 use mathlib.Core.Path.{◌≡◌, sym, ap, ◌∙◌}
 use mathlib.Core.List.{List, ◌++◌}
-use Prim.Native.Nat.{ℕ, suc, ◌+◌, ◌-◌, ◌*◌, ◌^◌, ◌<◌, ◌≤◌}
-use native.Mathlib.Nat.{suc-mul, mul_comm, mul-le-mul, le_refl, le_of_eq}
-use native.Mathlib.Numerals.{add-one}
+use Prim.Native.Nat.{ℕ, suc, ◌-◌, ◌*◌, ◌^◌, ◌<◌, ◌≤◌}
+use native.Mathlib.Nat.{suc-mul, mul-le-mul, le_refl, le_of_eq}
 use native.Mathlib.Omega.{arith}
 use lib.ListN.{length, take, drop}
 use lib.Seq.{take-take}
 use borrow.Rule.Slice.PartMut.{put_mid}
 use Rattle.table.specs.declared.entry.Entry.{Entry}
-use Rattle.memory.specs.Memory.{Memory}
 use Rattle.memory.proofs.Moved.{memory_front, memory_lent, memory_back}
-use Rattle.cases.specs.Levels.{Roomy, Remembers}
+use Rattle.cases.specs.Levels.{Roomy, Remembers, Reckoned}
 
--- where the answers begin, as the program computes it
-pub same_place : (depth level : ℕ) → (depth + 1) * level ≡ suc depth * level
-same_place depth level = ap (λ (k : ℕ). k * level) (add-one depth)
-
-module _ {entry : ℕ → Entry} {n depth level words : ℕ} (room : Roomy entry n depth level words) where
-  pub room_depth : 2 * suc depth ≤ words
-  room_depth =
-      let wide : 2 ≤ level = omega (arith, room.stack) in
-      omega (arith, mul-le-mul (le_refl (suc depth)) wide, mul_comm (suc depth) 2, room.levels)
-
-  pub from_fits : words < 2 ^ 64 → (depth + 1) * level < 2 ^ 64
-  from_fits small = omega (arith, same_place depth level, room.levels)
-
-module _ (entry : ℕ → Entry) (depth level : ℕ) (work : List ℕ) where
-  pub memory_from : Remembers entry depth level work → Memory entry work ((depth + 1) * level)
-  memory_from memory = rw (same_place depth level) memory
-
-  pub memory_to : Memory entry work ((depth + 1) * level) → Remembers entry depth level work
-  memory_to memory = rw (same_place depth level) at memory
+-- where there is room, where the levels end can be reckoned
+pub room_reckoned : {entry : ℕ → Entry} {n depth level words : ℕ} → Roomy entry n depth level words → words < 2 ^ 64 → Reckoned depth level
+room_reckoned {depth = depth} {level} room small =
+    let wide : 1 ≤ level = omega (arith, room.stack) in
+    record { deep = omega (arith, mul-le-mul (le_refl (suc depth)) wide, room.levels); fits = omega (arith, room.levels) }
 
 module _ (entry : ℕ → Entry) (work : List ℕ) (depth level : ℕ) (deep : 0 < depth) (fits : level ≤ length work) where
   one_less : suc (depth - 1) ≡ depth
@@ -50,14 +34,13 @@ pub memory_over : (entry : ℕ → Entry) (work front : List ℕ) (depth level :
 memory_over entry work front depth level as_many memory = memory_front entry work front level (suc depth * level) as_many (omega (arith, suc-mul depth level)) memory
 
 -- an answer was stored behind the levels
-pub next_same : (depth level : ℕ) (after mid before : List ℕ) → take ((depth + 1) * level) after ≡ take ((depth + 1) * level) mid → take level mid ≡ take level before
+pub next_same : (depth level : ℕ) (after mid before : List ℕ) → take (suc depth * level) after ≡ take (suc depth * level) mid → take level mid ≡ take level before
     → take level after ≡ take level before
 next_same depth level after mid before stored kept =
-    let below : level ≤ (depth + 1) * level = omega (arith, same_place depth level, suc-mul depth level) in
-    sym (take-take level ((depth + 1) * level) after below) ∙ ap (take level) stored ∙ take-take level ((depth + 1) * level) mid below ∙ kept
+    let below : level ≤ suc depth * level = omega (arith, suc-mul depth level) in
+    sym (take-take level (suc depth * level) after below) ∙ ap (take level) stored ∙ take-take level (suc depth * level) mid below ∙ kept
 
 -- the words of all levels are lent and come back
-pub memory_levels : (entry : ℕ → Entry) (work front : List ℕ) (depth level : ℕ) → length front ≡ (depth + 1) * level → Remembers entry depth level work
-    → Remembers entry depth level (front ++ drop ((depth + 1) * level) work)
-memory_levels entry work front depth level as_many memory =
-    memory_front entry work front ((depth + 1) * level) (suc depth * level) as_many (le_of_eq (same_place depth level)) memory
+pub memory_levels : (entry : ℕ → Entry) (work front : List ℕ) (depth level reach : ℕ) → reach ≡ suc depth * level → length front ≡ reach
+    → Remembers entry depth level work → Remembers entry depth level (front ++ drop reach work)
+memory_levels entry work front depth level reach is as_many memory = memory_front entry work front reach (suc depth * level) as_many (le_of_eq is) memory

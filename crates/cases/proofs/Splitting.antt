@@ -9,6 +9,7 @@ use native.Mathlib.Decide.{dec_lt}
 use native.Mathlib.Omega.{arith}
 use lib.Dec.{eqb}
 use borrow.Author.Tests.{eqb-false, not-true}
+use Rattle.std.specs.Prelude.{None}
 use Rattle.semantics.specs.Structure.{Structure}
 use Rattle.sets.specs.Set.{member}
 use Rattle.sets.specs.Word.{Greatest}
@@ -20,8 +21,7 @@ use Rattle.sets.proofs.Tests.{both_parts}
 use Rattle.tableau.proofs.Rules.{either_rule}
 use Rattle.tableau.proofs.Growth.{meets_fewer, split_settled}
 use Rattle.wants.specs.declared.Wants.{Wants}
-use Rattle.wants.specs.declared.Outcome.{Outcome}
-use Rattle.wants.specs.Outcome.{wanted_w, GrowsW, MeetsW, SettledW, Refuted, Asked, Taken, OutcomeIs, Lightened}
+use Rattle.wants.specs.Outcome.{wanted_w, GrowsW, MeetsW, SettledW, Refuted, Asked, Taken, Lightened}
 use Rattle.cases.specs.World.{serving, CaseOf, Ready, Waiting, Branch, BranchIs}
 
 -- the kind of a pending entry says how its parts serve
@@ -76,7 +76,7 @@ module _ {entry : ℕ → Entry} {n d bound depth : ℕ} {w : Wants} (at : Waiti
   cases s x m = either_rule at.ready.formed s x inside (serving entry d) kind_is (m.as_wanted (serving entry d) d wanted_so)
 
   -- v holds a part as it serves, and the entry is pending no more
-  module _ (v u : Wants) (light : Lightened d (Outcome.Settled v) (Outcome.Settled u)) where
+  module _ (v u : Wants) (light : Lightened d v u) where
     pub light_ready : {below : ℕ} → SettledW entry n v
         → wanted_w v (serving entry d) (entry d).first || wanted_w v (serving entry d) (entry d).second ≡ true
         → ((j : ℕ) → member v.pending j ≡ true → (j ≡ d → ⊥) → j < below)
@@ -120,7 +120,7 @@ module _ {entry : ℕ → Entry} {n d depth : ℕ} {w : Wants} (ready : Ready en
       → ((j : ℕ) → member v.pending j ≡ true → (member w.pending j ≡ true) ⊎ (j < d))
       → ((c : Bool) (j : ℕ) → wanted_w v c j ≡ true → depth_at entry j ≤ depth)
       → ((s : Structure) (x : ℕ) → MeetsW entry s x w → CaseOf entry case d s x → MeetsW entry s x v)
-      → Lightened d (Outcome.Settled v) (Outcome.Settled u) → Branch entry n case d w depth u
+      → Lightened d v u → Branch entry n case d w depth u
   branched case v u settled grows part pending shallow complete light = record {
     ready = light_ready waiting v u light settled part
         (λ j h other. ⊎_elim (λ (old : member w.pending j ≡ true). below_top j old other) (λ (l : j < d). l) (pending j h)) shallow;
@@ -136,34 +136,25 @@ module _ {entry : ℕ → Entry} {n d depth : ℕ} {w : Wants} (ready : Ready en
       below_top : (j : ℕ) → member w.pending j ≡ true → (j ≡ d → ⊥) → j < d
       below_top j h other = elim (dec_lt j d) [ yes l ↦ l | no g ↦ absurd (false≢true (sym (top.above j (omega arith)) ∙ h)) ]
 
-  pub first_branch : (o r : Outcome) → OutcomeIs entry n (serving entry d) (entry d).first w o → Lightened d o r → BranchIs entry n true d w depth r
-  first_branch (Outcome.Settled v) (Outcome.Settled u) taken light =
+  pub first_branch : {v u : Wants} → Taken entry n (serving entry d) (entry d).first w v → Lightened d v u → Branch entry n true d w depth u
+  first_branch {v} {u} taken light =
       branched true v u taken.settled taken.grows (rw taken.has refl) (pending_next taken (first_below waiting) (part_depths waiting).0 (λ j h. inl h))
       (shallow_next taken (first_below waiting) (part_depths waiting).0 ready.shallow) (λ s x m t. taken.meets s x m t) light
-  first_branch (Outcome.Settled v) Outcome.Clash taken light = absurd light
-  first_branch Outcome.Clash (Outcome.Settled u) clash light = absurd light
-  first_branch Outcome.Clash Outcome.Clash clash light = clash
 
-  pub second_branch : {v₁ : Wants} → Taken entry n (not (serving entry d)) (entry d).first w v₁ → (o r : Outcome)
-      → OutcomeIs entry n (serving entry d) (entry d).second v₁ o → Lightened d o r → BranchIs entry n false d w depth r
-  second_branch {v₁} one (Outcome.Settled v) (Outcome.Settled u) taken light =
-      branched false v u taken.settled (λ c i h. taken.grows c i (one.grows c i h)) (rw (taken.has, or-true) refl)
-      (pending_next taken (second_below waiting) (part_depths waiting).1 (pending_next one (first_below waiting) (part_depths waiting).0 (λ j h. inl h)))
-      (shallow_next taken (second_below waiting) (part_depths waiting).1 (shallow_next one (first_below waiting) (part_depths waiting).0 ready.shallow))
-      (λ s x m t. taken.meets s x (one.meets s x m t.0) t.1) light
-  second_branch one (Outcome.Settled v) Outcome.Clash taken light = absurd light
-  second_branch one Outcome.Clash (Outcome.Settled u) clash light = absurd light
-  second_branch one Outcome.Clash Outcome.Clash clash light = λ s x m t. clash s x (one.meets s x m t.0) t.1
+  module _ {v₁ : Wants} (one : Taken entry n (not (serving entry d)) (entry d).first w v₁) where
+    pub second_branch : {v u : Wants} → Taken entry n (serving entry d) (entry d).second v₁ v → Lightened d v u → Branch entry n false d w depth u
+    second_branch {v} {u} taken light =
+        branched false v u taken.settled (λ c i h. taken.grows c i (one.grows c i h)) (rw (taken.has, or-true) refl)
+        (pending_next taken (second_below waiting) (part_depths waiting).1 (pending_next one (first_below waiting) (part_depths waiting).0 (λ j h. inl h)))
+        (shallow_next taken (second_below waiting) (part_depths waiting).1 (shallow_next one (first_below waiting) (part_depths waiting).0 ready.shallow))
+        (λ s x m t. taken.meets s x (one.meets s x m t.0) t.1) light
+
+    pub second_clash : Refuted entry (serving entry d) (entry d).second v₁ → BranchIs entry n false d w depth None
+    second_clash clash s x m t = clash s x (one.meets s x m t.0) t.1
 
   -- the second part alone says no more
-  pub second_alone : (o r : Outcome) → OutcomeIs entry n (serving entry d) (entry d).second w o → Lightened d o r → BranchIs entry n false d w depth r
-  second_alone (Outcome.Settled v) (Outcome.Settled u) taken light =
+  pub second_alone : {v u : Wants} → Taken entry n (serving entry d) (entry d).second w v → Lightened d v u → Branch entry n false d w depth u
+  second_alone {v} {u} taken light =
       branched false v u taken.settled taken.grows (rw (taken.has, or-true) refl)
       (pending_next taken (second_below waiting) (part_depths waiting).1 (λ j h. inl h))
       (shallow_next taken (second_below waiting) (part_depths waiting).1 ready.shallow) (λ s x m t. taken.meets s x m t.1) light
-  second_alone (Outcome.Settled v) Outcome.Clash taken light = absurd light
-  second_alone Outcome.Clash (Outcome.Settled u) clash light = absurd light
-  second_alone Outcome.Clash Outcome.Clash clash light = λ s x m t. clash s x m t.1
-
-  pub second_clash : Refuted entry (not (serving entry d)) (entry d).first w → BranchIs entry n false d w depth Outcome.Clash
-  second_clash clash s x m t = clash s x m t.0

@@ -1,15 +1,12 @@
 -- What follows at once from what is wanted and from what was learnt, without a split.
-use Rattle.std.specs.Prelude.{◌≡◌, ◌⊎◌, Bool, true, false, not, ℕ, ◌<◌}
+use Rattle.std.specs.Prelude.{◌≡◌, ◌⊎◌, Bool, true, false, not, Option, Some, None, ℕ, ◌<◌}
 use Rattle.semantics.specs.Structure.{Structure}
 use Rattle.sets.specs.Set.{member}
 use Rattle.table.specs.declared.entry.Entry.{Entry}
 use Rattle.tableau.specs.Wants.{truth_at}
 use Rattle.memory.specs.declared.learnt.Ruled.{Ruled}
 use Rattle.wants.specs.declared.Wants.{Wants}
-use Rattle.wants.specs.declared.Outcome.{Outcome}
 use Rattle.wants.specs.Outcome.{MeetsW}
-use Rattle.cases.specs.declared.force.Known.{Known}
-use Rattle.cases.specs.declared.force.Left.{Left}
 use Rattle.cases.specs.World.{serving, Ready}
 
 -- the entries that are ruled out to be b
@@ -27,15 +24,15 @@ module _ (entry : ℕ → Entry) where
   RuledFor w r = (b : Bool) (i : ℕ) → never r b i ≡ true → Shown (not b) i w
 
   -- what is known of entry i, where b is asked for
-  abbrev pub KnownIs : Bool → ℕ → Wants → Known → Type 0
-  KnownIs b i w Known.So = Shown b i w
-  KnownIs b i w Known.Against = Shown (not b) i w
-  KnownIs b i w Known.Open = Unit {0}
+  abbrev pub KnownIs : Bool → ℕ → Wants → Option Bool → Type 0
+  KnownIs b i w (Some true) = Shown b i w
+  KnownIs b i w (Some false) = Shown (not b) i w
+  KnownIs b i w None = Unit {0}
 
   -- a part of entry d that is as it serves at every world that is as wanted
-  abbrev pub LeftIs : ℕ → Wants → Left → Type 0
-  LeftIs d w (Left.Part i) = ((i ≡ (entry d).first) ⊎ (i ≡ (entry d).second)) × Shown (serving entry d) i w
-  LeftIs d w Left.Open = Unit {0}
+  abbrev pub LeftIs : ℕ → Wants → Option ℕ → Type 0
+  LeftIs d w (Some i) = ((i ≡ (entry d).first) ⊎ (i ≡ (entry d).second)) × Shown (serving entry d) i w
+  LeftIs d w None = Unit {0}
 
   -- v says the same as w
   pub record Forced (n : ℕ) (w : Wants) (bound depth : ℕ) (v : Wants) : Type 0 where
@@ -43,6 +40,6 @@ module _ (entry : ℕ → Entry) where
     pub sound : (s : Structure) (u : ℕ) → MeetsW entry s u v → MeetsW entry s u w
     pub complete : (s : Structure) (u : ℕ) → u < s.worlds → MeetsW entry s u w → MeetsW entry s u v
 
-  abbrev pub ForcedIs : ℕ → Wants → ℕ → ℕ → Outcome → Type 0
-  ForcedIs n w bound depth (Outcome.Settled v) = Forced n w bound depth v
-  ForcedIs n w bound depth Outcome.Clash = (s : Structure) (u : ℕ) → u < s.worlds → MeetsW entry s u w → ⊥
+  abbrev pub ForcedIs : ℕ → Wants → ℕ → ℕ → Option Wants → Type 0
+  ForcedIs n w bound depth (Some v) = Forced n w bound depth v
+  ForcedIs n w bound depth None = (s : Structure) (u : ℕ) → u < s.worlds → MeetsW entry s u w → ⊥

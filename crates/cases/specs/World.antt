@@ -1,5 +1,5 @@
 -- What is asked of a world: settled wants, of which the pending ones are split one after the other.
-use Rattle.std.specs.Prelude.{◌≡◌, Bool, true, false, not, List, ℕ, ◌<◌, ◌≤◌, eqb, length}
+use Rattle.std.specs.Prelude.{◌≡◌, Bool, true, false, not, Option, Some, None, List, ℕ, ◌<◌, ◌≤◌, eqb, length}
 use Rattle.semantics.specs.Structure.{Structure}
 use Rattle.sets.specs.Set.{member}
 use Rattle.table.specs.declared.entry.Entry.{Entry}
@@ -7,7 +7,6 @@ use Rattle.table.specs.Formulas.{depth_at}
 use Rattle.table.specs.Formed.{WellFormed}
 use Rattle.tableau.specs.Wants.{truth_at, Sat}
 use Rattle.wants.specs.declared.Wants.{Wants}
-use Rattle.wants.specs.declared.Outcome.{Outcome}
 use Rattle.wants.specs.Outcome.{wanted_w, MeetsW, SettledW}
 use Rattle.cases.specs.Levels.{Roomy, Remembers}
 
@@ -51,6 +50,6 @@ module _ (entry : ℕ → Entry) where
     pub sound : SatW v → SatW w
     pub complete : (s : Structure) (u : ℕ) → MeetsW entry s u w → CaseOf case d s u → MeetsW entry s u v
 
-  abbrev pub BranchIs : ℕ → Bool → ℕ → Wants → ℕ → Outcome → Type 0
-  BranchIs n case d w depth (Outcome.Settled v) = Branch n case d w depth v
-  BranchIs n case d w depth Outcome.Clash = (s : Structure) (u : ℕ) → MeetsW entry s u w → CaseOf case d s u → ⊥
+  abbrev pub BranchIs : ℕ → Bool → ℕ → Wants → ℕ → Option Wants → Type 0
+  BranchIs n case d w depth (Some v) = Branch n case d w depth v
+  BranchIs n case d w depth None = (s : Structure) (u : ℕ) → MeetsW entry s u w → CaseOf case d s u → ⊥

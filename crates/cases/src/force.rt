@@ -9,59 +9,30 @@ ghost use Rattle.memory.specs.Memory.{Memory};
 ghost use Rattle.cases.specs.World.{Ready, Waiting, WorldAsked};
 ghost use Rattle.cases.specs.Force.{never, RuledFor, KnownIs, LeftIs, ForcedIs};
 
+use crate::level::Level;
+use crate::serves;
 use memory::learnt::{Ruled, rulings};
-use sets::{Highest, Set};
-use wants::{Outcome, Wants, want, wanted};
+use sets::Set;
+use table::kind::Kind;
+use wants::{Wants, want};
 use wide::wide_at;
-
-// What is known of an entry at any world that is as wanted.
-#[derive(Clone, Copy)]
-enum Known {
-    // It is so.
-    So,
-    // It is not so.
-    Against,
-    // Nothing.
-    Open,
-}
-
-// The part of a pending entry that must be as it serves.
-#[derive(Clone, Copy)]
-enum Left {
-    Part(usize),
-    // Neither, for what is known of them.
-    Open,
-}
 
 // Looks at what is pending again and again, until nothing more follows. A look that changes something drops an entry, so as
 // many looks as there may be entries are enough; nothing rests on that.
-pub fn force(
-    entries: &[u64],
-    w: Wants,
-    bound: usize,
-    depth: usize,
-    level: usize,
-    work: &[u64],
-) -> Outcome
-    requires { WorldAsked (wide_in entries.now) (length entries.now) w bound depth level work.now }
-    ensures { ForcedIs (wide_in entries.now) (length entries.now) w bound depth result }
+pub fn force(entries: &[u64], w: Wants, bound: usize, level: Level, work: &[u64]) -> Option<Wants>
+    requires { WorldAsked (wide_in entries.now) (length entries.now) w bound level.depth level.size work.now }
+    ensures { ForcedIs (wide_in entries.now) (length entries.now) w bound level.depth result }
 {
-    let from = (depth + 1) * level;
+    let from = level.memory();
     let mut v = w;
-    let mut looks: usize = 0;
-    while looks < 64 {
-        let before = v.pending;
-        let Outcome::Settled(u) = informed(entries, v, bound, depth, from, work) else {
-            return Outcome::Clash;
-        };
-        let after = u.pending;
-        if before.code() == after.code() {
-            return Outcome::Settled(u);
+    for _ in 0..64 {
+        let u = informed(entries, v, bound, level.depth, from, work)?;
+        if v.pending.code() == u.pending.code() {
+            return Some(u);
         }
         v = u;
-        looks += 1;
     }
-    Outcome::Settled(v)
+    Some(v)
 }
 
 // One look, with what was learnt: it tells of entries that they cannot be so, or that no world is as wanted.
@@ -72,35 +43,29 @@ fn informed(
     depth: usize,
     from: usize,
     work: &[u64],
-) -> Outcome
+) -> Option<Wants>
     requires { Ready (wide_in entries.now) (length entries.now) w bound depth × Memory (wide_in entries.now) work.now from }
     ensures { ForcedIs (wide_in entries.now) (length entries.now) w bound depth result }
 {
     let known = rulings(work, from, w.yes, w.no);
     if known.out {
-        return Outcome::Clash;
+        return None;
     }
     look(entries, w, known, bound, depth)
 }
 
 // Looks at each pending entry once, from the highest down: those that come in on the way are lower, so it comes to them too.
-fn look(entries: &[u64], w: Wants, known: Ruled, bound: usize, depth: usize) -> Outcome
+fn look(entries: &[u64], w: Wants, known: Ruled, bound: usize, depth: usize) -> Option<Wants>
     requires { Ready (wide_in entries.now) (length entries.now) w bound depth × RuledFor (wide_in entries.now) w known }
     ensures { ForcedIs (wide_in entries.now) (length entries.now) w bound depth result }
 {
     let mut v = w;
     let mut seen = Set::empty();
-    loop {
-        let pending = v.pending;
-        let Highest::At(d) = pending.minus(seen).highest() else {
-            return Outcome::Settled(v);
-        };
-        let Outcome::Settled(u) = force_at(entries, v, known, d, bound, depth) else {
-            return Outcome::Clash;
-        };
-        v = u;
+    while let Some(d) = v.pending.minus(seen).highest() {
+        v = force_at(entries, v, known, d, bound, depth)?;
         seen = seen.with(d);
     }
+    Some(v)
 }
 
 // The same for the pending entry d alone.
@@ -111,35 +76,40 @@ fn force_at(
     d: usize,
     bound: usize,
     depth: usize,
-) -> Outcome
+) -> Option<Wants>
     requires { Waiting (wide_in entries.now) (length entries.now) w d bound depth × RuledFor (wide_in entries.now) w known }
     ensures { ForcedIs (wide_in entries.now) (length entries.now) w bound depth result }
 {
-    match part_left(entries, w, known, d, bound, depth) {
-        Left::Part(i) => {
-            let e = wide_at(entries, d);
-            want(entries, i, w, e.kind == 5).lighten(d)
-        }
-        Left::Open => Outcome::Settled(w),
-    }
+    let Some(i) = part_left(entries, w, known, d, bound, depth) else {
+        return Some(w);
+    };
+    let serving = serves(wide_at(entries, d));
+    Some(want(entries, i, w, serving)?.lighten(d))
 }
 
 // The part of the pending entry d that must be as it serves, if what is known of one of them says so.
-fn part_left(entries: &[u64], w: Wants, known: Ruled, d: usize, bound: usize, depth: usize) -> Left
+fn part_left(
+    entries: &[u64],
+    w: Wants,
+    known: Ruled,
+    d: usize,
+    bound: usize,
+    depth: usize,
+) -> Option<usize>
     requires { Waiting (wide_in entries.now) (length entries.now) w d bound depth × RuledFor (wide_in entries.now) w known }
     ensures { LeftIs (wide_in entries.now) d w result }
 {
     let e = wide_at(entries, d);
-    let serving = e.kind == 5;
+    let serving = serves(e);
     let first = e.first as usize;
     let second = e.second as usize;
     match told(entries, w, known, first, serving) {
-        Known::So => Left::Part(first),
-        Known::Against => Left::Part(second),
-        Known::Open => match told(entries, w, known, second, serving) {
-            Known::So => Left::Part(second),
-            Known::Against => Left::Part(first),
-            Known::Open => Left::Open,
+        Some(true) => Some(first),
+        Some(false) => Some(second),
+        None => match told(entries, w, known, second, serving) {
+            Some(true) => Some(second),
+            Some(false) => Some(first),
+            None => None,
         },
     }
 }
@@ -151,35 +121,35 @@ fn ruled(known: Ruled, truth: bool) -> Set
     if truth { known.yes } else { known.no }
 }
 
-// Whether entry i is known to be so: it is wanted itself, or the contrary is ruled out, or it is the not of an entry that is
-// not so.
-fn told(entries: &[u64], w: Wants, known: Ruled, i: usize, truth: bool) -> Known
+// Whether entry i is so at any world that is as wanted, if that is known: it is wanted itself, or the contrary is ruled out, or it
+// is the not of an entry that is not so.
+fn told(entries: &[u64], w: Wants, known: Ruled, i: usize, truth: bool) -> Option<bool>
     requires { WellFormed (wide_in entries.now) (length entries.now) × (i < length entries.now) × RuledFor (wide_in entries.now) w known }
     ensures { KnownIs (wide_in entries.now) truth i w result }
 {
-    let so = wanted(w, truth);
-    let against = wanted(w, !truth);
+    let so = w.wanted(truth);
+    let against = w.wanted(!truth);
     if so.contains(i) {
-        return Known::So;
+        return Some(true);
     }
     if against.contains(i) {
-        return Known::Against;
+        return Some(false);
     }
     if ruled(known, truth).contains(i) {
-        return Known::Against;
+        return Some(false);
     }
     if ruled(known, !truth).contains(i) {
-        return Known::So;
+        return Some(true);
     }
     let e = wide_at(entries, i);
-    if e.kind == 3 {
+    if Kind::of(e.kind) == Some(Kind::Not) {
         let part = e.first as usize;
         if against.contains(part) {
-            return Known::So;
+            return Some(true);
         }
         if so.contains(part) {
-            return Known::Against;
+            return Some(false);
         }
     }
-    Known::Open
+    None
 }

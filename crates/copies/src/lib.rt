@@ -11,7 +11,7 @@ ghost use Rattle.copies.specs.Filled.{filled, Placed, HoldsAt};
 
 use counting::question::Question;
 use counting::{question, stack};
-use packed::word_at;
+use packed::item_or;
 use wide::wide_at;
 
 // How many successors are in the slots and the copies together, of those that promise entry i, or of those that do not.
@@ -28,12 +28,10 @@ fn amount(
     ensures { result ≡ tally_of promised i (filled words.now at k slots from) }
 {
     let mut sum = stack::tally(words, slots, i, promised);
-    let mut j = 0;
-    while j < k {
-        let code = word_at(words, at + j);
-        let copies = word_at(words, from + j) % 65536;
+    for j in 0..k {
+        let code = item_or(words, at + j, 0);
+        let copies = item_or(words, from + j, 0) % 65536;
         sum += stack::share(code, copies, i, promised);
-        j += 1;
     }
     sum
 }
@@ -80,16 +78,12 @@ pub fn completes(
     if 4294967296 < k {
         return false;
     }
-    let n = entries.len();
-    let mut i = 0;
-    while i < n {
-        if !holds_at(entries, q, words, at, k, slots, from, i, true) {
+    for i in 0..entries.len() {
+        if !holds_at(entries, q, words, at, k, slots, from, i, true)
+            || !holds_at(entries, q, words, at, k, slots, from, i, false)
+        {
             return false;
         }
-        if !holds_at(entries, q, words, at, k, slots, from, i, false) {
-            return false;
-        }
-        i += 1;
     }
     true
 }

@@ -1,31 +1,15 @@
--- Which entries are needs and limits, by kind; and the set of them all, entry by entry.
+-- The set of all needs and limits, entry by entry.
 use mathlib.Core.Path.{◌≡◌, refl, sym, ◌∙◌, fun_ext}
-use mathlib.Core.Bool.{Bool, true, false, not, and-true, and-false, or-false}
+use mathlib.Core.Bool.{Bool, true, false, and-false}
 use mathlib.Core.Logic.{⊎_elim, by_cases}
 use Prim.Native.Nat.{ℕ, suc, ◌<◌, ◌≤◌}
 use native.Mathlib.Nat.{eq-or-lt_of_le, le_of_suc-le-suc, not-suc-le-zero, lt_irrefl}
-use native.Mathlib.Decide.{dec_lt, ℕ_discrete}
+use native.Mathlib.Decide.{dec_lt}
 use native.Mathlib.Omega.{arith}
 use borrow.Author.Tests.{eq-eqb, ne_eqb}
-use Rattle.sets.specs.Set.{added}
-use Rattle.table.specs.declared.entry.Entry.{Entry}
 use Rattle.tableau.specs.Wants.{wanted, added_if}
-use Rattle.tableau.specs.Counting.{bound}
-use Rattle.tableau.specs.Search.{Problem, asking, Asks}
-use Rattle.counting.specs.Question.{Small, OnlyAsked}
-
-module _ (yes no : ℕ → Bool) (e : Entry) (i : ℕ) where
-  pub bound_least : (c : Bool) → e.kind ≡ 6 → bound yes no e i c ≡ wanted yes no c i
-  bound_least true k = rw (k, and-true, and-false, or-false)
-  bound_least false k = rw (k, and-false, and-true)
-
-  pub bound_most : (c : Bool) → e.kind ≡ 7 → bound yes no e i c ≡ wanted yes no (not c) i
-  bound_most true k = rw (k, and-false, and-true)
-  bound_most false k = rw (k, and-true, and-false, or-false)
-
-  pub bound_none : (c : Bool) → (e.kind ≡ 6 → ⊥) → (e.kind ≡ 7 → ⊥) → bound yes no e i c ≡ false
-  bound_none true a b = simp (ne_eqb _ _ a, ne_eqb _ _ b, and-false)
-  bound_none false a b = simp (ne_eqb _ _ a, ne_eqb _ _ b, and-false)
+use Rattle.tableau.specs.Search.{Problem, asking}
+use Rattle.counting.specs.Question.{Small}
 
 -- p below n, and nothing from there on
 pub record Upto (p : ℕ → Bool) (n : ℕ) (found : ℕ → Bool) : Type 0 where
@@ -53,7 +37,7 @@ module _ (p : ℕ → Bool) where
     behind = λ j l. added_other (p n) found n j (omega arith) ∙ u.behind j (omega arith);
   }
 
-untrue : (x : Bool) → (x ≡ true → ⊥) → x ≡ false
+pub untrue : (x : Bool) → (x ≡ true → ⊥) → x ≡ false
 untrue true h = absurd (h refl)
 untrue false h = refl
 
@@ -67,8 +51,3 @@ pub upto_all : (P : Problem) → Small P → {found : ℕ → Bool} → Upto (as
 upto_all P small u =
     fun_ext (λ j. by_cases (dec_lt j P.n) (λ (l : j < P.n). u.below j l)
     (λ (g : ¬ (j < P.n)). let past : P.n ≤ j = omega arith in u.behind j past ∙ sym (asking_none P small j past)))
-
--- one more that is asked
-pub only_added : {P : Problem} {c : Bool} {p : ℕ → Bool} {i : ℕ} → OnlyAsked P c p → Asks P c i → OnlyAsked P c (added p i)
-only_added {i = i} all here j h =
-    by_cases (ℕ_discrete j i) (λ (e : j ≡ i). rw e here) (λ (ne : ¬ (j ≡ i)). all j (rw (ne_eqb j i ne) at h))

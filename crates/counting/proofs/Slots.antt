@@ -17,7 +17,7 @@ gain_le true m = le_refl m
 gain_le false m = zero-le
 
 pub length_slots : (words : List ℕ) (k : ℕ) → length (slots_of words k) ≡ k
-unfolding slots_of length
+unfolding slots_of
 length_slots words zero = refl
 length_slots words (suc k) = ap suc (length_slots words k)
 

@@ -34,7 +34,6 @@ module _ (P : Problem) (words : List ℕ) (k : ℕ) where
 
   -- one slot more
   pub serving_more : {b m : ℕ} → Serving P (taken b m ∷ slots_of words k) → suc k ≤ sum_of_grades P.entry P.n
-  unfolding length
   serving_more {b} {m} serving = omega (arith, length_slots words k, slots_bound P (taken b m ∷ slots_of words k) serving)
 
 pub standing_bound : {P : Problem} {all : Set} {words : List ℕ} {k t : ℕ} → Standing P all words k t → k ≤ sum_of_grades P.entry P.n

@@ -32,6 +32,11 @@ pub record Small (P : Problem) : Type 0 where
   pub few : P.n ≤ 64
   pub below : (b : Bool) (i : ℕ) → wanted P.yes P.no b i ≡ true → i < P.n
 
+-- the members are the numbers below n that pass a test
+pub record Those (n : ℕ) (Gives : ℕ → Bool → Type 0) (p : ℕ → Bool) : Type 0 where
+  pub below : (i : ℕ) → p i ≡ true → i < n
+  pub passes : (i : ℕ) → i < n → Gives i (p i)
+
 -- all members are needs (c true); all are limits (c false)
 abbrev pub OnlyAsked : Problem → (c : Bool) → (ℕ → Bool) → Type 0
 OnlyAsked P c p = (i : ℕ) → p i ≡ true → Asks P c i

@@ -1,12 +1,13 @@
 -- What holds of the search between two steps, and what a step answers: a solution, none, or a set to be decided first.
 use Rattle.std.specs.Prelude.{◌≡◌, true, cond, List, ℕ, suc, ◌+◌, ◌*◌, ◌<◌, ◌≤◌, length}
+use Rattle.std.specs.declared.ops.ControlFlow.{ControlFlow}
+use Rattle.std.specs.ControlFlow.{MatchControlFlow}
 use Rattle.table.specs.Space.{sum_of_grades}
 use Rattle.sets.specs.declared.Set.{Set}
 use Rattle.sets.specs.Set.{member, code, Within}
 use Rattle.tableau.specs.Search.{Problem, asking, Searching, Solvable, Useful, potential}
 use Rattle.counting.specs.declared.Cursor.{Cursor}
 use Rattle.counting.specs.declared.Step.{Step}
-use Rattle.counting.specs.declared.Turn.{Turn}
 use Rattle.counting.specs.Question.{Small}
 use Rattle.counting.specs.Stack.{slots_of, FewCopies}
 
@@ -51,9 +52,9 @@ module _ (P : Problem) (all : Set) (words : List ℕ) where
   StepIs begun Step.Failed = Solvable P → ⊥
   StepIs begun (Step.Ask c m) = Asked c m × (to_do words c ≤ begun)
 
-  abbrev pub TurnIs : (begun : ℕ) → Turn → Type 0
-  TurnIs begun (Turn.Stop s) = StepIs begun s
-  TurnIs begun (Turn.Go c) = Nearer begun c
+  -- the search goes on, or stops with an answer
+  abbrev pub TurnIs : (begun : ℕ) → ControlFlow Step Cursor → Type 0
+  TurnIs begun turn = MatchControlFlow turn (Nearer begun) (StepIs begun)
 
 -- the cursor behind a set that has been tried
 pub record Behind (all tried : Set) (slots : ℕ) (c : Cursor) : Type 0 where

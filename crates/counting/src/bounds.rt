@@ -9,7 +9,6 @@ ghost use Rattle.counting.specs.Bounds.{left_of, unasked, tighter, Left};
 
 use crate::question::Question;
 use crate::{question, stack};
-use numbers::{max, min};
 use sets::Set;
 use table::entry::Entry;
 use wide::wide_at;
@@ -19,7 +18,7 @@ pub fn left(e: Entry, words: &[u64], k: usize, i: usize, need: bool) -> u64
     requires { Few words.now k }
     ensures { result ≡ left_of need e i (slots_of words.now k) }
 {
-    question::less(question::bound(e, need), stack::tally(words, k, i, need))
+    question::bound(e, need).saturating_sub(stack::tally(words, k, i, need))
 }
 
 // Where nothing is asked, needs lack nothing, and limits have room for all that any need asks for.
@@ -33,7 +32,7 @@ fn unasked(need: bool) -> u64
 fn tighter(a: u64, b: u64, need: bool) -> u64
     ensures { result ≡ tighter need a b }
 {
-    if need { max(a, b) } else { min(a, b) }
+    if need { a.max(b) } else { a.min(b) }
 }
 
 // What entry i lacks, if it is a need in the set b, or else the room under it, if it is a limit outside b.
@@ -67,10 +66,8 @@ fn tightest(entries: &[u64], q: Question, b: Set, words: &[u64], k: usize, need:
 {
     let n = entries.len();
     let mut found = unasked(need);
-    let mut i = 0;
-    while i < n {
+    for i in 0..n {
         found = tighter(found, left_at(entries, q, b, words, k, i, need), need);
-        i += 1;
     }
     found
 }
@@ -84,7 +81,7 @@ pub fn useful(entries: &[u64], q: Question, b: Set, words: &[u64], k: usize) -> 
     if lack == 0 {
         return 0;
     }
-    min(lack, tightest(entries, q, b, words, k, false))
+    lack.min(tightest(entries, q, b, words, k, false))
 }
 
 // Whether every need is met; `all` are the needs and limits.
@@ -95,40 +92,15 @@ pub fn met(entries: &[u64], q: Question, all: Set, words: &[u64], k: usize) -> b
     tightest(entries, q, all, words, k, true) == 0
 }
 
-// The set with entry i, if that is a need that lacks something, or else a limit that leaves no room.
-fn with_pressing(
-    entries: &[u64],
-    q: Question,
-    found: Set,
-    words: &[u64],
-    k: usize,
-    i: usize,
-    need: bool,
-) -> Set
-    requires { (i < 64) × Few words.now k }
-{
-    let e = wide_at(entries, i);
-    if !question::asks(e, q, i, need) {
-        return found;
-    }
-    let left = left(e, words, k, i, need);
-    let presses = if need { 0 < left } else { left == 0 };
-    if presses { found.with(i) } else { found }
-}
-
 // The needs that lack something, or else the limits that leave no room. Nothing is promised of them: they only say what to
 // try first.
 fn pressing(entries: &[u64], q: Question, words: &[u64], k: usize, need: bool) -> Set
     requires { (length entries.now ≤ 64) × Few words.now k }
 {
-    let n = entries.len();
-    let mut found = Set::empty();
-    let mut i = 0;
-    while i < n {
-        found = with_pressing(entries, q, found, words, k, i, need);
-        i += 1;
-    }
-    found
+    question::those(entries.len(), |i| {
+        let e = wide_at(entries, i);
+        question::asks(e, q, i, need) && need == (0 < left(e, words, k, i, need))
+    })
 }
 
 // The needs that lack something.

@@ -16,9 +16,10 @@ pub mod bounds;
 pub mod question;
 pub mod stack;
 
-use packed::word_at;
+use packed::item_or;
 use question::Question;
-use sets::{Below, Set};
+use sets::Set;
+use std::ops::ControlFlow::{self, Break, Continue};
 
 // Where the search stands: how many slots are on the stack, and the set to try next, if there is one.
 #[derive(Clone, Copy)]
@@ -38,24 +39,18 @@ pub enum Step {
     Ask(Cursor, u64),
 }
 
-#[derive(Clone, Copy)]
-enum Turn {
-    Stop(Step),
-    Go(Cursor),
-}
-
 // The cursor behind a set that has been tried.
 fn behind(slots: usize, tried: Set, all: Set) -> Cursor
     requires { Within (member tried) (member all) }
     ensures { Behind all tried slots result }
 {
     match tried.below(all) {
-        Below::At(next) => Cursor {
+        Some(next) => Cursor {
             slots,
             next,
             more: true,
         },
-        Below::Nothing => Cursor {
+        None => Cursor {
             slots,
             next: tried,
             more: false,
@@ -81,8 +76,8 @@ fn give_up(words: &mut [u64], newest: usize, all: Set) -> Cursor
     ensures { (P : Problem) → Standing P all words.old (suc newest) 0 → (Met P (slots_of words.old (suc newest)) → ⊥)
         → Nearer P all words.new (potential (slots_of words.old (suc newest)) 0) result }
 {
-    let tried = Set::of_code(word_at(words, 2 * newest));
-    let copies = word_at(words, 2 * newest + 1);
+    let tried = Set::of_code(item_or(words, 2 * newest, 0));
+    let copies = item_or(words, 2 * newest + 1, 0);
     if copies <= 1 {
         return behind(newest, tried, all);
     }
@@ -91,37 +86,45 @@ fn give_up(words: &mut [u64], newest: usize, all: Set) -> Cursor
 }
 
 // Asks for the next set if copies of it are of use, and passes it over if not.
-fn attempt(entries: &[u64], q: Question, all: Set, words: &[u64], at: Cursor) -> Turn
+fn attempt(
+    entries: &[u64],
+    q: Question,
+    all: Set,
+    words: &[u64],
+    at: Cursor,
+) -> ControlFlow<Step, Cursor>
     requires { At (problem_of entries.now q) all words.now at × (at.more ≡ true) }
     ensures { TurnIs (problem_of entries.now q) all words.now (to_do words.now at) result }
 {
-    let slots = at.slots;
-    let next = at.next;
-    let m = bounds::useful(entries, q, next, words, slots);
+    let m = bounds::useful(entries, q, at.next, words, at.slots);
     if 0 < m {
-        Turn::Stop(Step::Ask(at, m))
+        Break(Step::Ask(at, m))
     } else {
-        Turn::Go(behind(slots, next, all))
+        Continue(behind(at.slots, at.next, all))
     }
 }
 
 // One move of the search.
-fn advance(entries: &[u64], q: Question, all: Set, words: &mut [u64], at: Cursor) -> Turn
+fn advance(
+    entries: &[u64],
+    q: Question,
+    all: Set,
+    words: &mut [u64],
+    at: Cursor,
+) -> ControlFlow<Step, Cursor>
     requires { At (problem_of entries.now q) all words.old at }
     ensures { TurnIs (problem_of entries.now q) all words.new (to_do words.old at) result }
 {
-    let slots = at.slots;
-    let more = at.more;
-    if bounds::met(entries, q, all, words, slots) {
-        return Turn::Stop(Step::Found);
+    if bounds::met(entries, q, all, words, at.slots) {
+        return Break(Step::Found);
     }
-    if more {
+    if at.more {
         return attempt(entries, q, all, words, at);
     }
-    if slots == 0 {
-        return Turn::Stop(Step::Failed);
-    }
-    Turn::Go(give_up(words, slots - 1, all))
+    let Some(newest) = at.slots.checked_sub(1) else {
+        return Break(Step::Failed);
+    };
+    Continue(give_up(words, newest, all))
 }
 
 // Searches until it is done, or has a set to ask for.
@@ -132,10 +135,8 @@ pub fn search(entries: &[u64], q: Question, all: Set, words: &mut [u64], from: C
     let mut at = from;
     loop {
         match advance(entries, q, all, words, at) {
-            Turn::Stop(answer) => return answer,
-            Turn::Go(next) => {
-                at = next;
-            }
+            Break(answer) => return answer,
+            Continue(next) => at = next,
         }
     }
 }
@@ -146,10 +147,8 @@ pub fn take(words: &mut [u64], all: Set, asked: Cursor, m: u64) -> Cursor
     ensures { (P : Problem) → Asked P all words.old asked m → Fit P (code asked.next)
         → Nearer P all words.new (to_do words.old asked) result }
 {
-    let slots = asked.slots;
-    let next = asked.next;
-    stack::put_slot(words, slots, next, m);
-    behind(slots + 1, next, all)
+    stack::put_slot(words, asked.slots, asked.next, m);
+    behind(asked.slots + 1, asked.next, all)
 }
 
 // The set asked for is not fit: the search goes on behind it.

@@ -5,14 +5,14 @@ ghost use Rattle.sets.specs.Set.{code};
 ghost use Rattle.sets.specs.Word.{bit_at};
 ghost use Rattle.counting.specs.Stack.{slots_of, counts, tally_of, Few, Put};
 
-use packed::word_at;
+use packed::item_or;
 use sets::Set;
 
 // Whether a set counts: those that promise are counted, or those that do not.
 pub fn counts(promises: bool, promised: bool) -> bool
     ensures { result ≡ counts promised promises }
 {
-    if promised { promises } else { !promises }
+    promises == promised
 }
 
 // What the set with a code adds to a tally for entry i: its copies or nothing.
@@ -33,12 +33,10 @@ pub fn tally(words: &[u64], k: usize, i: usize, promised: bool) -> u64
     ensures { result ≡ tally_of promised i (slots_of words.now k) }
 {
     let mut sum: u64 = 0;
-    let mut j = 0;
-    while j < k {
-        let code = word_at(words, 2 * j);
-        let copies = word_at(words, 2 * j + 1);
+    for j in 0..k {
+        let code = item_or(words, 2 * j, 0);
+        let copies = item_or(words, 2 * j + 1, 0);
         sum += share(code, copies, i, promised);
-        j += 1;
     }
     sum
 }

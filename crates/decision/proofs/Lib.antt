@@ -1,6 +1,6 @@
--- words cleared one by one
+-- words that are worked in, and then cleared
 pub mod Clearing
--- a call on two entries, and on one
+-- the greater depth of two entries
 pub mod Pair
 -- the questions that a call asks of the engine
 pub mod Question

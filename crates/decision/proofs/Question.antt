@@ -23,7 +23,7 @@ use Rattle.tableau.specs.Wants.{Sat}
 use Rattle.wide.specs.Wide.{wide_in, StandsFor, Widened}
 use Rattle.wide.proofs.Widening.{wide_weight, wide_stands}
 use Rattle.cases.specs.Levels.{Roomy}
-use Rattle.decision.specs.Ask.{There, AllThere}
+use Rattle.decision.specs.Ask.{There}
 
 grades_ext : (entry entry' : ℕ → Entry) (n : ℕ) → ((i : ℕ) → i < n → weight (entry i) ≡ weight (entry' i)) → sum_of_grades entry n ≡ sum_of_grades entry' n
 unfolding sum_of_grades
@@ -62,9 +62,6 @@ only_one e i h =
 
 pub has_one : (e : ℕ) → added nothing e e ≡ true
 has_one e = ap (λ (b : Bool). b || false) (eq-eqb e e refl)
-
-pub one_there : (entry : ℕ → Entry) (n depth e : ℕ) → There entry n depth e → AllThere entry n depth (added nothing e) nothing
-one_there entry n depth e there = elim [ true ↦ λ i h. rw (only_one e i h) there | false ↦ λ i h. absurd (false≢true h) ]
 
 module _ (entry : ℕ → Entry) (e : ℕ) where
   pub entry_answer : (r : Bool) → Answers r (Sat entry (added nothing e) nothing) → Answers r (Satisfiable (formula_at entry e))

@@ -1,14 +1,12 @@
 -- What the calls on entries of a table share: document 01's W, the order of their faults, and the words at exit.
-use Rattle.std.specs.Prelude.{◌≡◌, ◌||◌, List, ℕ, ◌<◌, ◌≤◌, max, leb, ltb, length, get_or}
+use Rattle.std.specs.Prelude.{Result, Ok, Err, ◌≡◌, ◌||◌, List, ℕ, ◌<◌, ◌≤◌, max, leb, ltb, length, get_or}
+use Rattle.faults.specs.declared.Fault.{Fault}
 use Rattle.faults.specs.declared.Fault.TheVariants.{EntryNumber, Space}
-use Rattle.faults.specs.declared.Verdict.{Verdict}
-use Rattle.faults.specs.declared.Verdict.TheVariants.{Accepted, Refused}
-use Rattle.faults.specs.Verdict.{number_of, refuse_if, and_then}
+use Rattle.faults.specs.Verdict.{Verdict, accepted, refuse_if, and_then}
 use Rattle.table.specs.Entry.{entry_in, size}
 use Rattle.table.specs.Formulas.{depth_at}
 use Rattle.table.specs.Space.{table_work}
 use Rattle.table.specs.Check.{table_verdict}
-use Rattle.decision.specs.declared.call.Needed.{Needed}
 
 -- document 01's W for a call on the entries a and b, by the greater depth of the two
 abbrev pub pair_work : List ℕ → ℕ → ℕ → ℕ
@@ -22,15 +20,10 @@ pair_there bytes a b = and_then (table_verdict bytes) (refuse_if (leb (size byte
 abbrev pub pair_verdict : List ℕ → ℕ → ℕ → ℕ → Verdict
 pair_verdict bytes a b words = and_then (pair_there bytes a b) (refuse_if (ltb words (pair_work bytes a b)) Space)
 
--- the number that is refused with, 0 where the words are told
-abbrev pub refusal : Needed → ℕ
-refusal (Needed.Words w) = 0
-refusal (Needed.Refused f) = number_of f
-
 -- W, or why there is none
-abbrev pub NeededIs : List ℕ → ℕ → ℕ → Needed → Type 0
-NeededIs bytes a b (Needed.Words w) = (pair_there bytes a b ≡ Accepted) × (w ≡ pair_work bytes a b)
-NeededIs bytes a b (Needed.Refused f) = pair_there bytes a b ≡ Refused f
+abbrev pub NeededIs : List ℕ → ℕ → ℕ → Result ℕ Fault → Type 0
+NeededIs bytes a b (Ok w) = (pair_there bytes a b ≡ accepted) × (w ≡ pair_work bytes a b)
+NeededIs bytes a b (Err f) = pair_there bytes a b ≡ Err f
 
 -- the first n words are 0, the others are as before
 pub record Cleared (n : ℕ) (before after : List ℕ) : Type 0 where

@@ -4,57 +4,38 @@
 ghost use Rattle.std.specs.Prelude.{◌≡◌, ◌<◌, ◌≤◌, length};
 ghost use Rattle.semantics.specs.Truth.{Satisfiable};
 ghost use Rattle.semantics.specs.Answer.{Answers};
-ghost use Rattle.faults.specs.declared.Verdict.TheVariants.{Accepted};
+ghost use Rattle.faults.specs.Verdict.{accepted};
 ghost use Rattle.table.specs.Check.{table_verdict};
 ghost use Rattle.table.specs.Entry.{entry_in, size};
 ghost use Rattle.table.specs.Formulas.{formula_at, depth_at};
 ghost use Rattle.table.specs.Space.{table_work};
 ghost use Rattle.decision.specs.Call.{Cleared};
-ghost use Rattle.decision.specs.Decide.{number_of, entry_work, DecisionIs};
+ghost use Rattle.decision.specs.Decide.{entry_work, DecisionIs};
 
 pub mod ask;
 pub mod call;
 
 use ask::{possible, prepare};
 use call::{checked, clear, pair_depth};
-use faults::{Fault, Verdict};
-
-// Whether some world of some finite structure makes the entry true; or why the call is refused.
-#[derive(Clone, Copy)]
-pub enum Decision {
-    Possible,
-    Impossible,
-    Refused(Fault),
-}
-
-impl Decision {
-    // The number that document 01 lists for the answer, or for the fault of a refusal.
-    pub fn number(self) -> u8
-        ensures { result ≡ number_of self }
-    {
-        match self {
-            Decision::Possible => 1,
-            Decision::Impossible => 0,
-            Decision::Refused(fault) => fault.number(),
-        }
-    }
-}
+use cases::level::Level;
+use faults::Fault;
 
 // Whether entry e, of this depth, is possible, worked in the words, which are W or more.
 fn decided(table: &[u8], e: usize, depth: usize, words: &mut [u64]) -> bool
-    requires { (table_verdict table.now ≡ Accepted) × (e < size table.now) × (depth_at (entry_in table.now) e ≡ depth)
+    requires { (table_verdict table.now ≡ accepted) × (e < size table.now) × (depth_at (entry_in table.now) e ≡ depth)
         × (table_work table.now depth ≤ length words.old) }
     ensures { Answers result (Satisfiable (formula_at (entry_in table.now) e)) }
 {
     let n = table.len() / 4;
-    let level = table::space::work_words(table, 0) / 2;
-    let entries = prepare(table, depth, level, words);
-    possible(&entries[..n], e, depth, level, words)
+    let size = table::space::work_words(table, 0) / 2;
+    let level = Level { depth, size };
+    let entries = prepare(table, level, words);
+    possible(&entries[..n], e, level, words)
 }
 
 // The same, and the words worked in are cleared.
 fn answer(table: &[u8], e: usize, words: &mut [u64]) -> bool
-    requires { (table_verdict table.now ≡ Accepted) × (e < size table.now) × (entry_work table.now e ≤ length words.old) }
+    requires { (table_verdict table.now ≡ accepted) × (e < size table.now) × (entry_work table.now e ≤ length words.old) }
     ensures { Answers result (Satisfiable (formula_at (entry_in table.now) e))
         × Cleared (entry_work table.now e) words.old words.new }
 {
@@ -65,18 +46,10 @@ fn answer(table: &[u8], e: usize, words: &mut [u64]) -> bool
     found
 }
 
-// Decides entry e of a table, or refuses and writes nothing.
-pub fn decide(table: &[u8], e: usize, words: &mut [u64]) -> Decision
+// Decides entry e of a table: is it possible? Or refuses and writes nothing.
+pub fn decide(table: &[u8], e: usize, words: &mut [u64]) -> Result<bool, Fault>
     ensures { DecisionIs table.now e words.old words.new result }
 {
-    match checked(table, e, e, words.len()) {
-        Verdict::Refused(f) => Decision::Refused(f),
-        Verdict::Accepted => {
-            if answer(table, e, words) {
-                Decision::Possible
-            } else {
-                Decision::Impossible
-            }
-        }
-    }
+    checked(table, e, e, words.len())?;
+    Ok(answer(table, e, words))
 }

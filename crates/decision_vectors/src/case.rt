@@ -1,7 +1,6 @@
 // A case: calls of `hurnavis::decide`, the answer and every lent word compared with what document 01 gives.
-use decision::Decision;
+use faults::Numbered;
 use vectors::description::Description;
-use vectors::entries::Room;
 use vectors::tally::Tally;
 use vectors::words::{ONES, compare};
 
@@ -12,30 +11,16 @@ pub const POSSIBLE: u64 = 1;
 
 pub const REFUSED: u64 = 100;
 
-fn number(decision: Decision) -> u64 {
-    match decision {
-        Decision::Impossible => IMPOSSIBLE,
-        Decision::Possible => POSSIBLE,
-        Decision::Refused(fault) => REFUSED + fault.number() as u64,
-    }
-}
-
-// The answer on the first bytes of a table. Here and below, more than there is gives 255, which no case expects.
-fn on_table(table: Room, bytes: usize, entry: usize, words: &mut [u64]) -> u64 {
-    if 260 < bytes {
-        return 255;
-    }
-    let decision = hurnavis::decide(&table[..bytes], entry, words);
-    number(decision)
-}
-
-// The same with the first `lent` words lent.
+// The answer with the first `lent` words lent. More bytes or words than there are give 255, which no case expects.
 fn call(d: Description, entry: usize, words: &mut [u64], lent: usize) -> u64 {
-    if words.len() < lent {
+    let (Some(table), Some(words)) = (d.table.get(..d.bytes), words.get_mut(..lent)) else {
         return 255;
+    };
+    match hurnavis::decide(table, entry, words) {
+        Ok(false) => IMPOSSIBLE,
+        Ok(true) => POSSIBLE,
+        Err(fault) => REFUSED + u64::from(fault.number()),
     }
-    let table = d.table;
-    on_table(table, d.bytes, entry, &mut words[..lent])
 }
 
 // A case that lends so many words, of which so many are 0 afterwards.
@@ -57,14 +42,14 @@ pub fn lends(
 
 // A case that is refused and leaves all words as before.
 pub fn refuses(tally: Tally, d: Description, entry: usize, lent: usize, expected: u8) -> Tally {
-    lends(tally, d, entry, lent, 0, REFUSED + expected as u64)
+    lends(tally, d, entry, lent, 0, REFUSED + u64::from(expected))
 }
 
 // An entry of this depth is decided in W words, and refused with one word less.
 pub fn decides(before: Tally, d: Description, entry: usize, depth: usize, expected: u64) -> Tally {
     let needed = d.work(depth);
-    let less = std::num::wrapping_sub_usize(needed, 1);
-    let more = std::num::wrapping_add_usize(needed, 2);
+    let less = needed.wrapping_sub(1);
+    let more = needed.wrapping_add(2);
     let mut tally = refuses(before, d, entry, less, 10);
     tally = lends(tally, d, entry, needed, needed, expected);
     lends(tally, d, entry, more, needed, expected)

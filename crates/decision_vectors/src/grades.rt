@@ -17,7 +17,7 @@ fn between(least: u32, most: u32) -> Description {
 // A grade with itself as the limit, and with one less.
 fn pair(before: Tally, grade: u32) -> Tally {
     let tally = decides_last(before, between(grade, grade), 1, POSSIBLE);
-    let less = std::num::wrapping_sub_u32(grade, 1);
+    let less = grade.wrapping_sub(1);
     decides_last(tally, between(grade, less), 1, IMPOSSIBLE)
 }
 

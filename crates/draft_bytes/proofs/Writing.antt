@@ -1,22 +1,22 @@
--- Words and lengths written to bytes, one after the other, and what they pack.
+-- Words and saved lengths written to bytes, and what they pack.
 use mathlib.Core.Path.{◌≡◌, refl, sym, ◌∙◌}
 use mathlib.Core.Logic.{by_cases}
 use mathlib.Core.List.{List}
-use Prim.Native.Nat.{ℕ, ◌+◌, ◌*◌, ◌<◌, ◌≤◌}
+use Prim.Native.Nat.{ℕ, ◌+◌, ◌*◌, ◌-◌, ◌<◌, ◌≤◌}
 use native.Mathlib.Decide.{dec_lt}
 use native.Mathlib.Omega.{arith}
 use lib.ListN.{length, get_or, set, length-set}
 use lib.Seq.{get_or-set_same, get_or-set_other}
+use borrow.Rule.Slice.PartMut.{put_mid}
 use Rattle.packed.specs.Bytes.{Put}
 use Rattle.packed.proofs.Bytes.{same_bytes}
 use Rattle.table.specs.Entry.{word_in}
 use Rattle.history.specs.declared.Draft.{Draft}
 use Rattle.history.specs.Shown.{draft_in, Packs}
 use Rattle.history.specs.Sound.{Whole}
-use Rattle.history.proofs.Lists.{is_listed}
+use Rattle.history.proofs.Lists.{is_listed, part_before, part_inside, part_long}
 use Rattle.history.proofs.Steps.{same_draft}
 use Rattle.draft_bytes.specs.Table.{Words}
-use Rattle.draft_bytes.specs.Layout.{Lengths}
 
 pub no_words : (words l : List ℕ) → Words words 0 l l
 no_words words l = record { as_long = refl; there = λ i h. absurd (omega arith); behind = λ k h. refl }
@@ -39,46 +39,30 @@ one_word words i word before bytes after w is p =
       behind = λ k h. p.behind k (omega arith) ∙ w.behind k (omega arith);
     }
 
--- the lengths of the names below n are written
-pub record Naming (saved : List ℕ) (n : ℕ) (before after : List ℕ) : Type 0 where
-  pub as_long : length after ≡ length before
-  pub there : (name : ℕ) → name < n → get_or after (257 + name) 0 ≡ get_or saved name 0
-  pub in_front : (k : ℕ) → k < 257 → get_or after k 0 ≡ get_or before k 0
-
-pub no_names : (saved l : List ℕ) → Naming saved 0 l l
-no_names saved l = record { as_long = refl; there = λ i h. absurd (omega arith); in_front = λ k h. refl }
-
-pub one_name : (saved : List ℕ) (n : ℕ) (before bytes : List ℕ) → 257 + n < length bytes → Naming saved n before bytes
-    → Naming saved (n + 1) before (set bytes (257 + n) (get_or saved n 0))
-one_name saved n before bytes room w =
-    record {
-      as_long = length-set bytes (257 + n) (get_or saved n 0) ∙ w.as_long;
-      there =
-          λ j h.
-          by_cases (dec_lt j n) (λ (less : j < n). get_or-set_other bytes (257 + n) (257 + j) (get_or saved n 0) 0 (omega arith) ∙ w.there j less)
-          (λ (g : ¬ (j < n)). let at : j ≡ n = omega arith in rw at (get_or-set_same bytes (257 + n) (get_or saved n 0) 0 room));
-      in_front = λ k h. get_or-set_other bytes (257 + n) k (get_or saved n 0) 0 (omega arith) ∙ w.in_front k h;
-    }
-
-pub all_names : (saved : List ℕ) (n : ℕ) (before after : List ℕ) → 16 ≤ n → Naming saved n before after → Lengths saved before after
-all_names saved n before after all w =
-    record { as_long = w.as_long; there = λ name h. w.there name (omega arith); in_front = w.in_front }
+-- bytes of which those from the saved lengths on were written anew
+abbrev pub with_lengths : List ℕ → List ℕ → List ℕ
+with_lengths bytes saved = put_mid 257 (length bytes - 257) bytes saved
 
 -- the three parts of a draft, written one after the other, pack it
-pub parts_pack : (d : Draft) (before first after : List ℕ) → Whole d → length before ≡ 273 → Words d.entries 64 before first
-    → Lengths d.saved (set first 256 d.count) after → Packs d after
+pub parts_pack : (d : Draft) (before first : List ℕ) → Whole d → length before ≡ 273 → Words d.entries 64 before first
+    → Packs d (with_lengths (set first 256 d.count) d.saved)
 unfolding draft_in
-parts_pack d before first after whole long words lengths =
-    let room : 256 < length first = omega (arith, words.as_long) in
+parts_pack d before first whole long words =
+    let bytes = set first 256 d.count in
+    let size : length first ≡ 273 = words.as_long ∙ long in
+    let within : 257 ≤ length bytes = omega (arith, length-set first 256 d.count) in
+    let after = with_lengths bytes d.saved in
+    let same = part_before 257 (length bytes - 257) bytes d.saved within in
     record {
-      long = lengths.as_long ∙ length-set first 256 d.count ∙ words.as_long ∙ long;
+      long = part_long 257 (length bytes - 257) bytes d.saved within (omega (arith, whole.saved, length-set first 256 d.count)) refl ∙ length-set first 256 d.count ∙ size;
       same =
           same_draft
           (sym (is_listed d.entries (word_in after) 64 whole.entries
           (λ i h.
           sym (words.there i h)
           ∙ same_word first after i
-          (λ k low high. sym (lengths.in_front k (omega arith) ∙ get_or-set_other first 256 k d.count 0 (omega arith))))))
-          (sym (is_listed d.saved (λ name. get_or after (257 + name) 0) 16 whole.saved (λ name h. sym (lengths.there name h))))
-          (lengths.in_front 256 (omega arith) ∙ get_or-set_same first 256 d.count 0 room);
+          (λ k low high. sym (same k (omega arith) ∙ get_or-set_other first 256 k d.count 0 (omega arith))))))
+          (sym (is_listed d.saved (λ name. get_or after (257 + name) 0) 16 whole.saved
+          (λ name h. sym (part_inside 257 (length bytes - 257) bytes d.saved within name (omega (arith, whole.saved))))))
+          (same 256 (omega arith) ∙ get_or-set_same first 256 d.count 0 (omega arith));
     }

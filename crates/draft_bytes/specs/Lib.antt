@@ -1,5 +1,3 @@
 -- What the calls on drafts promise beside the steps, which are in `history`.
 -- the entries of a draft as a table
 pub mod Table
--- saved lengths written to bytes; an inner contract
-pub mod Layout

@@ -1,25 +1,18 @@
 -- The entries of a draft as the bytes of a table, for the other calls.
-use Rattle.std.specs.Prelude.{◌≡◌, List, ℕ, ◌*◌, ◌<◌, ◌≤◌, ltb, length, get_or}
+use Rattle.std.specs.Prelude.{Result, ◌≡◌, List, ℕ, ◌*◌, ◌<◌, ◌≤◌, ltb, length, get_or}
+use Rattle.faults.specs.declared.Fault.{Fault}
 use Rattle.faults.specs.declared.Fault.TheVariants.{Space, Draft}
-use Rattle.faults.specs.declared.Verdict.{Verdict}
-use Rattle.faults.specs.Verdict.{number_of as fault_number, refusal as verdict_refusal, refuse_if}
+use Rattle.faults.specs.Verdict.{Verdict, number_of as fault_number, answer_number, refusal, refuse_if}
 use Rattle.table.specs.Entry.{word_in}
 use Rattle.history.specs.declared.Draft.{Draft as DraftValue}
 use Rattle.history.specs.declared.Step.{Step}
 use Rattle.history.specs.History.{State, state}
 use Rattle.history.specs.Shown.{Shows}
 use Rattle.history.specs.Answered.{Given}
-use Rattle.draft_bytes.specs.declared.Tabled.{Tabled}
-
--- the number that a call is refused with, 0 where it answers
-abbrev pub refusal : Tabled → ℕ
-refusal (Tabled.Entries n) = 0
-refusal (Tabled.Refused f) = fault_number f
 
 -- the number of entries; of a refusal, the number of its fault
-abbrev pub number_of : Tabled → ℕ
-number_of (Tabled.Entries n) = n
-number_of (Tabled.Refused f) = fault_number f
+abbrev pub number_of : Result ℕ Fault → ℕ
+number_of = answer_number (λ n. n)
 
 -- bytes after the first n words were written, 4 bytes each as in a table: those behind are as they were
 pub record Words (words : List ℕ) (n : ℕ) (before after : List ℕ) : Type 0 where
@@ -32,8 +25,8 @@ abbrev pub room_verdict : State → ℕ → Verdict
 room_verdict s lent = refuse_if (ltb lent (4 * length s.entries)) Space
 
 -- what a call answers, and what the lent bytes are then
-pub record TableIs (draft : DraftValue) (before after : List ℕ) (r : Tabled) : Type 0 where
-  pub given : (steps : List Step) → Shows draft (state steps) → refusal r ≡ verdict_refusal (room_verdict (state steps) (length before))
+pub record TableIs (draft : DraftValue) (before after : List ℕ) (r : Result ℕ Fault) : Type 0 where
+  pub given : (steps : List Step) → Shows draft (state steps) → refusal r ≡ refusal (room_verdict (state steps) (length before))
   pub written : (steps : List Step) → Shows draft (state steps) → refusal r ≡ 0
       → (number_of r ≡ length (state steps).entries) × Words (state steps).entries (length (state steps).entries) before after
   pub not_given : (Given Shows draft → ⊥) → refusal r ≡ fault_number Draft

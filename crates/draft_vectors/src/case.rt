@@ -1,7 +1,9 @@
 // A case: steps from a fresh draft on, each answer and the draft at the end compared with what document 02, P9, gives.
 use crate::letters::{entry, number};
 use draft::Stepped;
+use faults::Numbered;
 use history::Draft;
+use std::array;
 use vectors::tally::Tally;
 
 // A draft that is different counts as this number, which is no refusal's.
@@ -14,50 +16,11 @@ pub struct Ended {
     pub tally: Tally,
 }
 
-fn same_words(a: [u32; 64], b: [u32; 64]) -> bool {
-    for i in 0..64 {
-        if a[i] != b[i] {
-            return false;
-        }
-    }
-    true
-}
-
-fn same_lengths(a: [u8; 16], b: [u8; 16]) -> bool {
-    for name in 0..16 {
-        if a[name] != b[name] {
-            return false;
-        }
-    }
-    true
-}
-
-fn same(a: Draft, b: Draft) -> bool {
-    if a.count != b.count {
-        return false;
-    }
-    let words = a.entries;
-    let others = b.entries;
-    if !same_words(words, others) {
-        return false;
-    }
-    let saved = a.saved;
-    let lengths = b.saved;
-    same_lengths(saved, lengths)
-}
-
 // A step with the number that it is to answer; a refused one leaves the draft as it was.
 fn answers(tally: Tally, before: Draft, step: Stepped, expected: u8) -> Tally {
-    let verdict = step.verdict;
-    let after = step.draft;
-    let got = verdict.number();
-    if got == 0 {
-        return tally.case(0, expected as u64);
-    }
-    if same(before, after) {
-        return tally.case(got as u64, expected as u64);
-    }
-    tally.case(DIFFERENT, expected as u64)
+    let is_kept = step.verdict.is_ok() || step.draft == before;
+    let got = u64::from(step.verdict.number());
+    tally.case(if is_kept { got } else { DIFFERENT }, u64::from(expected))
 }
 
 // `S` and `B` save under a name and come back to it; any other letter adds an entry.
@@ -73,16 +36,12 @@ fn step(draft: Draft, letter: u8, operand: u8) -> Stepped {
 pub fn from(before: Tally, start: Draft, steps: &[u8]) -> Ended {
     let mut tally = before;
     let mut draft = start;
-    for k in 0..steps.len() / 4 {
-        let i = 4 * k;
-        let taken = step(draft, steps[i], steps[i + 1]);
-        tally = answers(tally, draft, taken, number(steps[i + 2]));
+    for letters in steps.chunks_exact(4) {
+        let taken = step(draft, letters[0], letters[1]);
+        tally = answers(tally, draft, taken, number(letters[2]));
         draft = taken.draft;
     }
-    Ended {
-        draft: draft,
-        tally: tally,
-    }
+    Ended { draft, tally }
 }
 
 // Steps on a fresh draft.
@@ -90,45 +49,11 @@ pub fn run(before: Tally, steps: &[u8]) -> Ended {
     from(before, hurnavis::draft_new(), steps)
 }
 
-fn letter(letters: &[u8], i: usize, other: u8) -> u8 {
-    if i < letters.len() { letters[i] } else { other }
-}
-
-// Whether the words are these entries and 0 behind them.
-fn shows_words(words: [u32; 64], entries: &[u8]) -> bool {
-    for i in 0..64 {
-        let expected = if i < entries.len() {
-            entry(entries[i])
-        } else {
-            0
-        };
-        if words[i] != expected {
-            return false;
-        }
-    }
-    true
-}
-
-// Whether the saved lengths are these; a name with no letter is not saved.
-fn shows_lengths(lengths: [u8; 16], saved: &[u8]) -> bool {
-    for name in 0..16 {
-        if lengths[name] != number(letter(saved, name, b'.')) {
-            return false;
-        }
-    }
-    true
-}
-
+// Whether the draft has these entries, with 0 behind them, and these saved lengths; a name with no letter is not saved.
 fn shows(draft: Draft, entries: &[u8], saved: &[u8]) -> bool {
-    let words = draft.entries;
-    if !shows_words(words, entries) {
-        return false;
-    }
-    let lengths = draft.saved;
-    if !shows_lengths(lengths, saved) {
-        return false;
-    }
-    draft.count as usize == entries.len()
+    let words = array::from_fn(|i| entries.get(i).map_or(0, |letter| entry(*letter)));
+    let lengths = array::from_fn(|name| number(*saved.get(name).unwrap_or(&b'.')));
+    draft.entries == words && draft.saved == lengths && usize::from(draft.count) == entries.len()
 }
 
 // The draft that steps give is to have these entries and saved lengths.

@@ -1,21 +1,21 @@
 // Drafts that no sequence of steps gives: every call refuses them with 16, before anything else.
 use crate::case::{from, run};
 use crate::letters::entry;
-use draft_bytes::Tabled;
+use faults::Numbered;
 use history::Draft;
 use vectors::tally::Tally;
 
 fn table_refusal(draft: Draft) -> u64 {
     let mut table = [0u8; 256];
     match hurnavis::draft_table(draft, &mut table) {
-        Tabled::Entries(_) => 0,
-        Tabled::Refused(fault) => fault.number() as u64,
+        Ok(_) => 0,
+        Err(fault) => u64::from(fault.number()),
     }
 }
 
 // Every step, and the table: all are refused, or none is.
 fn every(before: Tally, draft: Draft, expected: u8) -> Tally {
-    let tally = before.case(table_refusal(draft), expected as u64);
+    let tally = before.case(table_refusal(draft), u64::from(expected));
     if expected == 0 {
         return from(tally, draft, b"+10 S00 B30 ").tally;
     }
@@ -26,8 +26,8 @@ fn every(before: Tally, draft: Draft, expected: u8) -> Tally {
 fn word(before: Tally, i: usize, word: u32, expected: u8) -> Tally {
     let start = run(before, b"+10 +20 S30 +&0 ");
     let mut draft = start.draft;
-    if i < 64 {
-        draft.entries[i] = word;
+    if let Some(place) = draft.entries.get_mut(i) {
+        *place = word;
     }
     every(start.tally, draft, expected)
 }
@@ -36,8 +36,8 @@ fn word(before: Tally, i: usize, word: u32, expected: u8) -> Tally {
 fn length(before: Tally, name: usize, saved: u8, expected: u8) -> Tally {
     let start = run(before, b"+10 +20 S30 +&0 ");
     let mut draft = start.draft;
-    if name < 16 {
-        draft.saved[name] = saved;
+    if let Some(place) = draft.saved.get_mut(name) {
+        *place = saved;
     }
     every(start.tally, draft, expected)
 }

@@ -76,9 +76,8 @@ pub fn refused(before: Tally) -> Tally {
 // A draft with so many facts more.
 fn facts(start: Draft, n: usize) -> Draft {
     let mut draft = start;
-    for i in 0..n {
-        let step = hurnavis::draft_add(draft, entry(b'1'));
-        draft = step.draft;
+    for _ in 0..n {
+        draft = hurnavis::draft_add(draft, entry(b'1')).draft;
     }
     draft
 }

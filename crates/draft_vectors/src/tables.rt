@@ -1,8 +1,7 @@
 // The entries of a draft as a table: its bytes, those behind them, too few bytes, and a mark.
 use crate::case::run;
-use draft_bytes::Tabled;
+use faults::Numbered;
 use history::Draft;
-use mark::Marking;
 use vectors::description::Description;
 use vectors::entries::{and, fact};
 use vectors::tally::Tally;
@@ -12,12 +11,12 @@ const BEFORE: u8 = 0xb5;
 
 // The answer with the first `lent` bytes lent; a refusal stands 100 above its number.
 fn call(draft: Draft, table: &mut [u8], lent: usize) -> u64 {
-    if table.len() < lent {
+    let Some(table) = table.get_mut(..lent) else {
         return 255;
-    }
-    match hurnavis::draft_table(draft, &mut table[..lent]) {
-        Tabled::Entries(entries) => entries as u64,
-        Tabled::Refused(fault) => 100 + fault.number() as u64,
+    };
+    match hurnavis::draft_table(draft, table) {
+        Ok(entries) => entries as u64,
+        Err(fault) => 100 + u64::from(fault.number()),
     }
 }
 
@@ -25,12 +24,8 @@ fn call(draft: Draft, table: &mut [u8], lent: usize) -> u64 {
 fn lends(tally: Tally, draft: Draft, d: Description, lent: usize, expected: u64) -> Tally {
     let mut table = [BEFORE; 260];
     let got = call(draft, &mut table, lent);
-    let bytes = d.table;
-    for i in 0..260 {
-        let byte = if i < d.bytes { bytes[i] } else { BEFORE };
-        if table[i] != byte {
-            return tally.case(200, expected);
-        }
+    if table != d.written_over(BEFORE) {
+        return tally.case(200, expected);
     }
     tally.case(got, expected)
 }
@@ -56,7 +51,7 @@ pub fn marked(before: Tally) -> Tally {
     let n = call(last.draft, &mut table, 16);
     let tally = last.tally.case(n, 4);
     match hurnavis::mark(&table, 2, 3, &mut words) {
-        Marking::Marked(mark) => tally.case(mark.number() as u64, 3),
-        Marking::Refused(fault) => tally.case(100 + fault.number() as u64, 3),
+        Ok(mark) => tally.case(u64::from(mark.number()), 3),
+        Err(fault) => tally.case(100 + u64::from(fault.number()), 3),
     }
 }

@@ -2,8 +2,8 @@
 // writes its answer to a place that is lent, which a refusal leaves as it was. A slice is a pointer and a length in C.
 #![tactic(auto)]
 
-ghost use Rattle.std.specs.Prelude.{◌≡◌, length};
-ghost use Rattle.faults.specs.Verdict.{refusal};
+ghost use Rattle.std.specs.Prelude.{◌≡◌, length, MatchResult};
+ghost use Rattle.faults.specs.Verdict.{number_of, refusal};
 ghost use Rattle.table.specs.Check.{table_verdict};
 ghost use Rattle.truth_table.specs.Board.{board_verdict, BoardAfter};
 ghost use Rattle.decision.specs.Call.{pair_there, pair_work};
@@ -12,11 +12,21 @@ ghost use Rattle.history.specs.Shown.{BytesShow};
 ghost use Rattle.history.specs.Answered.{Begins, Answers};
 ghost use Rattle.exports.specs.Status.{placed, DecisionTold, MarkTold, ReadingTold};
 
-use decision::Decision;
-use decision::call::Needed;
+use faults::{Fault, Numbered};
 use history::Step;
-use mark::Marking;
-use typed::Reading;
+
+// The status of a call. Its answer goes to the place, which a refusal leaves as it was.
+fn status<T: Copy>(answer: Result<T, Fault>, place: &mut T) -> u32
+    ensures { MatchResult answer (λ x. (result ≡ 0) × (place.new ≡ x)) (λ fault. (result ≡ number_of fault) × (place.new ≡ place.old)) }
+{
+    match answer {
+        Ok(found) => {
+            *place = found;
+            0
+        }
+        Err(fault) => fault.number() as u32,
+    }
+}
 
 // Whether the table is accepted.
 #[unsafe(no_mangle)]
@@ -37,13 +47,10 @@ pub extern "C" fn hurnavis_work_words(
     ensures { (result ≡ refusal (pair_there table.now model answer))
         × (needed.new ≡ placed result (pair_work table.now model answer) needed.old) }
 {
-    match hurnavis::work_words(table, model, answer) {
-        Needed::Words(w) => {
-            *needed = w as u64;
-            0
-        }
-        Needed::Refused(fault) => fault.number() as u32,
-    }
+    status(
+        hurnavis::work_words(table, model, answer).map(|w| w as u64),
+        needed,
+    )
 }
 
 // Fills the words with the truth table of the structure.
@@ -67,17 +74,10 @@ pub extern "C" fn hurnavis_decide(
     ensures { DecisionTold table.now entry words.old words.new
         possible.old possible.new result }
 {
-    match hurnavis::decide(table, entry, words) {
-        Decision::Possible => {
-            *possible = 1;
-            0
-        }
-        Decision::Impossible => {
-            *possible = 0;
-            0
-        }
-        Decision::Refused(fault) => fault.number() as u32,
-    }
+    status(
+        hurnavis::decide(table, entry, words).map(|found| found.number()),
+        possible,
+    )
 }
 
 // 0 equal, 1 narrower, 2 wider, 3 crossing, 4 an impossible answer.
@@ -92,13 +92,10 @@ pub extern "C" fn hurnavis_mark(
     ensures { MarkTold table.now model answer words.old words.new
         mark.old mark.new result }
 {
-    match hurnavis::mark(table, model, answer, words) {
-        Marking::Marked(found) => {
-            *mark = found.number();
-            0
-        }
-        Marking::Refused(fault) => fault.number() as u32,
-    }
+    status(
+        hurnavis::mark(table, model, answer, words).map(|found| found.number()),
+        mark,
+    )
 }
 
 // Reads a typed answer and writes its table; how many entries it has.
@@ -107,13 +104,7 @@ pub extern "C" fn hurnavis_read_text(text: &[u8], table: &mut [u8], entries: &mu
     ensures { ReadingTold text.now table.old table.new
         entries.old entries.new result }
 {
-    match hurnavis::read_text(text, table) {
-        Reading::Entries(n) => {
-            *entries = n as u8;
-            0
-        }
-        Reading::Refused(fault) => fault.number() as u32,
-    }
+    status(hurnavis::read_text(text, table).map(|n| n as u8), entries)
 }
 
 // Makes the 273 bytes a fresh draft.
@@ -121,7 +112,7 @@ pub extern "C" fn hurnavis_read_text(text: &[u8], table: &mut [u8], entries: &mu
 pub extern "C" fn hurnavis_draft_new(draft: &mut [u8]) -> u32
     ensures { Begins draft.old draft.new result }
 {
-    draft_bytes::begin(draft) as u32
+    draft_bytes::begin(draft).number() as u32
 }
 
 // Adds an entry to the draft.
@@ -129,7 +120,7 @@ pub extern "C" fn hurnavis_draft_new(draft: &mut [u8]) -> u32
 pub extern "C" fn hurnavis_draft_add(draft: &mut [u8], entry: u32) -> u32
     ensures { Answers BytesShow (Add entry) draft.old draft.new result }
 {
-    draft_bytes::step(draft, Step::Add(entry)) as u32
+    draft_bytes::step(draft, Step::Add(entry)).number() as u32
 }
 
 // Saves the draft under a name.
@@ -137,7 +128,7 @@ pub extern "C" fn hurnavis_draft_add(draft: &mut [u8], entry: u32) -> u32
 pub extern "C" fn hurnavis_draft_save(draft: &mut [u8], name: u8) -> u32
     ensures { Answers BytesShow (Save name) draft.old draft.new result }
 {
-    draft_bytes::step(draft, Step::Save(name)) as u32
+    draft_bytes::step(draft, Step::Save(name)).number() as u32
 }
 
 // Comes back to what was saved under a name.
@@ -145,5 +136,5 @@ pub extern "C" fn hurnavis_draft_save(draft: &mut [u8], name: u8) -> u32
 pub extern "C" fn hurnavis_draft_back(draft: &mut [u8], name: u8) -> u32
     ensures { Answers BytesShow (Back name) draft.old draft.new result }
 {
-    draft_bytes::step(draft, Step::Back(name)) as u32
+    draft_bytes::step(draft, Step::Back(name)).number() as u32
 }

@@ -7,9 +7,8 @@ use native.Mathlib.Omega.{arith}
 use lib.ListN.{get_or}
 use Rattle.faults.specs.declared.Fault.{Fault}
 use Rattle.faults.specs.declared.Fault.TheVariants.{TableLength, Kind, UnusedField, Reference, StructureLength, Record, World, EntryNumber, Space, TextGrammar, TextLimit, Draft}
-use Rattle.faults.specs.declared.Verdict.{Verdict}
-use Rattle.faults.specs.declared.Verdict.TheVariants.{Accepted, Refused}
-use Rattle.faults.specs.Verdict.{number_of, refusal}
+use Rattle.faults.specs.Verdict.{Verdict, accepted, number_of, refusal}
+use Rattle.std.specs.Prelude.{Ok, Err}
 
 -- the fault with a number; Space for a number that no fault has
 fault_of : ℕ → Fault
@@ -42,20 +41,20 @@ pub no_fault : (f : Fault) → number_of f ≡ 0 → ⊥
 unfolding fault_of
 no_fault = unused 0 (λ e. absurd (omega (arith, e)))
 
-pub accepted_refused : {f : Fault} → Accepted ≡ Refused f → ⊥
+pub accepted_refused : {f : Fault} → accepted ≡ Err f → ⊥
 accepted_refused {f} e = no_fault f (sym (ap refusal e))
 
 -- the number of a verdict is a fault's exactly when it refuses for that fault, and 0 exactly when it accepts
-pub refused_number : (v : Verdict) (f : Fault) → (refusal v ≡ number_of f) ↔ (v ≡ Refused f)
-refused_number Accepted f = (λ e. absurd (no_fault f (sym e)), λ e. absurd (accepted_refused e))
-refused_number (Refused g) f = (λ e. ap Refused (same_fault g f e), λ e. ap refusal e)
+pub refused_number : (v : Verdict) (f : Fault) → (refusal v ≡ number_of f) ↔ (v ≡ Err f)
+refused_number (Ok tt) f = (λ e. absurd (no_fault f (sym e)), λ e. absurd (accepted_refused e))
+refused_number (Err g) f = (λ e. ap Err (same_fault g f e), λ e. ap refusal e)
 
-pub accepted_number : (v : Verdict) → (refusal v ≡ 0) ↔ (v ≡ Accepted)
-accepted_number Accepted = (λ e. refl, λ e. refl)
-accepted_number (Refused g) = (λ e. absurd (no_fault g e), λ e. ap refusal e)
+pub accepted_number : (v : Verdict) → (refusal v ≡ 0) ↔ (v ≡ accepted)
+accepted_number (Ok tt) = (λ e. refl, λ e. refl)
+accepted_number (Err g) = (λ e. absurd (no_fault g e), λ e. ap refusal e)
 
 -- document 02, P4: the number 5 is left unused
 pub never_5 : (v : Verdict) → refusal v ≡ 5 → ⊥
 unfolding fault_of
-never_5 Accepted e = absurd (omega (arith, e))
-never_5 (Refused f) e = unused 5 (λ z. absurd (omega (arith, z))) f e
+never_5 (Ok tt) e = absurd (omega (arith, e))
+never_5 (Err f) e = unused 5 (λ z. absurd (omega (arith, z))) f e

@@ -1,8 +1,9 @@
 -- The signs of a text, one after the other: at most one sign stands at a place, and the text's signs begin with it.
 use mathlib.Core.Path.{◌≡◌, refl, sym, ap, ap₂, ◌∙◌}
-use mathlib.Core.Logic.{by_cases, ◌↔◌, ◌⊎◌, inl, inr}
+use mathlib.Core.Logic.{by_cases, ◌↔◌}
 use mathlib.Core.Bool.{Bool, true, false, cond, ◌||◌}
 use mathlib.Core.List.{List, [], ◌∷◌}
+use Rattle.std.specs.Prelude.{Option, Some, None}
 use Prim.Native.Nat.{ℕ, min, ◌+◌, ◌<◌, ◌≤◌}
 use native.Mathlib.Decide.{dec_lt}
 use native.Mathlib.Omega.{arith}
@@ -11,7 +12,8 @@ use lib.Dec.{eqb, ltb}
 use borrow.Author.Tests.{lt-ltb, le-ltb}
 use lib.ListN.{length, get_or, get_or-eq_default}
 use Rattle.numerals.specs.Numeral.{Digit}
-use Rattle.numerals.specs.Number.{Whole}
+use Rattle.numerals.specs.declared.Number.{Number}
+use Rattle.numerals.specs.Number.{Whole, NumberIs}
 use Rattle.numerals.proofs.Digits.{whole_unique}
 use Rattle.grammar.specs.declared.Leaf.{Leaf}
 use Rattle.grammar.specs.declared.Prefix.{Prefix}
@@ -33,10 +35,7 @@ spaces_unique {text} {i} {j} {k} s other s' other' =
     let high : k ≤ j = by_cases (dec_lt j k) (λ l. absurd (other (s'.all j s.within l))) (λ g. omega arith) in
     omega arith
 
--- spaces, one by one
-pub no_space : (text : List ℕ) (i : ℕ) → Spaces text i i
-no_space text i = record { within = omega arith; all = λ k low high. absurd (omega arith) }
-
+-- one space more
 pub another_space : {text : List ℕ} {i j : ℕ} → Spaces text i j → get_or text j 0 ≡ 32 → Spaces text i (j + 1)
 another_space {text} {i} {j} s e =
     record {
@@ -116,24 +115,6 @@ known (Sign.Between Join.And) = search rules
 known (Sign.Between Join.Or) = search rules
 known Sign.Open = search rules
 known Sign.Close = search rules
-
--- a byte that is the first of no sign
-abbrev Unknown : ℕ → Type 0
-Unknown b =
-    (((((((((Unit {0} × (b ≡ 84 → ⊥)) × (b ≡ 70 → ⊥)) × (b ≡ 110 → ⊥)) × (b ≡ 33 → ⊥)) × ((b ≡ 60) ⊎ (b ≡ 62) → ⊥)) × (b ≡ 38 → ⊥))
-    × (b ≡ 124 → ⊥)) × (b ≡ 40 → ⊥)) × (b ≡ 41 → ⊥))
-
-no_lead : (s : Sign) → Unknown (lead (form s)) → ⊥
-no_lead (Sign.Alone Leaf.True) none = none.0.0.0.0.0.0.0.0.1 refl
-no_lead (Sign.Alone Leaf.False) none = none.0.0.0.0.0.0.0.1 refl
-no_lead (Sign.Alone (Leaf.Fact n)) none = none.0.0.0.0.0.0.1 refl
-no_lead (Sign.Before Prefix.Not) none = none.0.0.0.0.0.1 refl
-no_lead (Sign.Before (Prefix.AtLeast n r)) none = none.0.0.0.0.1 (inr refl)
-no_lead (Sign.Before (Prefix.AtMost n r)) none = none.0.0.0.0.1 (inl refl)
-no_lead (Sign.Between Join.And) none = none.0.0.0.1 refl
-no_lead (Sign.Between Join.Or) none = none.0.0.1 refl
-no_lead Sign.Open none = none.0.1 refl
-no_lead Sign.Close none = none.1 refl
 
 module _ (text : List ℕ) where
   -- a sign begins with its first byte
@@ -223,31 +204,15 @@ module _ (text : List ℕ) where
       bad k s (rw here at spelt) (no_digit_first k ss later)
 
   pub lexed : (i j : ℕ) → Skipped text i j → j < length text → (r : Lexed) → StandsIs text j r → LexedIs text i r
-  lexed i j skipped in_it (Lexed.Found s k big) (sign, same, spelt, ends, high, bigs) =
-      (sign, same, found i j k sign skipped.spaces spelt ends, omega (arith, skipped.spaces.within, longer j k (form sign) spelt), high, bigs)
+  lexed i j skipped in_it (Lexed.Found f) (sign, same, spelt, ends, high, bigs) =
+      (sign, same, found i j f.next sign skipped.spaces spelt ends, omega (arith, skipped.spaces.within, longer j f.next (form sign) spelt), high, bigs)
   lexed i j skipped in_it Lexed.End stands = absurd stands
   lexed i j skipped in_it Lexed.Bad bad = none i j skipped in_it bad
 
-  -- What stands behind a first byte: a number, a pair, or nothing.
-  pub fact_missing : (i : ℕ) → get_or text i 0 ≡ 110 → ((end n : ℕ) → Whole text (i + 1) end n → ⊥) → StandsIs text i Lexed.Bad
-  fact_missing i e none k sign spelt stop = go (form sign) (shaped_by i k sign e spelt) spelt
-    where
-      go : (f : Form) → shape f ≡ 1 → Spelt text i k f → ⊥
-      go (byte b) h p = omega arith
-      go (numbered b n) h p = none k n (whole_number p stop)
-      go (paired b n r) h p = omega arith
-
-  pub pair_missing : (i b : ℕ) → get_or text i 0 ≡ b → shape_by b ≡ 2 → PairIs text i Pair.Missing → StandsIs text i Lexed.Bad
-  pair_missing i b e two none k sign spelt stop = go (form sign) (shaped_by i k sign e spelt ∙ two) spelt
-    where
-      go : (f : Form) → shape f ≡ 2 → Spelt text i k f → ⊥
-      go (byte b) h p = omega arith
-      go (numbered b n) h p = omega arith
-      go (paired b n r) h p = none k b n r p stop
-
+  -- a counting pair: a grade, and behind spaces a relation
   pub pair : (i end at n value : ℕ) → get_or text (i + 1) 0 ≡ 61 → Whole text (i + 2) end n → value ≡ min n 256 → Skipped text end at
-      → (r : Pair) → RelationIs text at value r → PairIs text i r
-  pair i end at n value equals grade cut skipped (Pair.Read g r k) (same, relation, read, spelt, stop, high) = (
+      → (r : Option Pair) → RelationIs text at value r → PairIs text i r
+  pair i end at n value equals grade cut skipped (Some p) (same, relation, read, spelt, stop, high) = (
     n,
     relation,
     same ∙ cut,
@@ -256,17 +221,11 @@ module _ (text : List ℕ) where
     stop,
     high,
   )
-  pair i end at n value equals grade cut skipped Pair.Missing none =
+  pair i end at n value equals grade cut skipped None none =
       λ k lead n' relation p stop.
       let ends = (whole_unique (whole_grade p) grade).0 in
       let nexts = spaces_unique (rw ends at p.spaces) (λ e. omega (arith, p.relation.first)) skipped.spaces skipped.other in
       none k relation (rw nexts at p.relation) stop
-
-  pub no_grade : (i : ℕ) → ((end n : ℕ) → Whole text (i + 2) end n → ⊥) → PairIs text i Pair.Missing
-  no_grade i none k lead n relation p stop = none p.end n (whole_grade p)
-
-  pub unknown : (i : ℕ) → Unknown (get_or text i 0) → StandsIs text i Lexed.Bad
-  unknown i none k sign spelt stop = no_lead sign (rw (first i k (form sign) spelt) at none)
 
 -- a number over 255 may be read as 256
 pub over_cut : (n : ℕ) → ltb 255 (min n 256) ≡ ltb 255 n
@@ -275,17 +234,27 @@ over_cut n =
     (λ g. le-ltb 255 (min n 256) (omega arith) ∙ sym (le-ltb 255 n (omega arith)))
 
 -- a counting pair, by its first byte
-pub counted : (text : List ℕ) (i g r k : ℕ) (least : Bool) {p : Prefix} {big : Bool} → PairIs text i (Pair.Read g r k) → get_or text i 0 ≡ lead_of least
-    → p ≡ counting_of least g r → big ≡ ltb 255 g || ltb 255 r → StandsIs text i (Lexed.Found (Sign.Before p) k big)
-counted text i g r k least {p} {big} (n, m, grade, relation, spelt, stop, high) lead is bigs = go least lead is
+pub counted : (text : List ℕ) (i : ℕ) (q : Pair) (least : Bool) {p : Prefix} {big : Bool} → PairIs text i (Some q) → get_or text i 0 ≡ lead_of least
+    → p ≡ counting_of least q.grade q.relation → big ≡ ltb 255 q.grade || ltb 255 q.relation
+    → StandsIs text i (Lexed.Found (record { sign = Sign.Before p; next = q.end; over = big }))
+counted text i q least {p} {big} (n, m, grade, relation, spelt, stop, high) lead is bigs = go least lead is
   where
-    overs : ltb 255 g || ltb 255 r ≡ ltb 255 n || ltb 255 m
+    overs : ltb 255 q.grade || ltb 255 q.relation ≡ ltb 255 n || ltb 255 m
     overs = rw (grade, relation) (ap₂ ◌||◌ (over_cut n) (over_cut m))
 
-    go : (least : Bool) → get_or text i 0 ≡ lead_of least → p ≡ counting_of least g r → StandsIs text i (Lexed.Found (Sign.Before p) k big)
+    go : (least : Bool) → get_or text i 0 ≡ lead_of least → p ≡ counting_of least q.grade q.relation
+        → StandsIs text i (Lexed.Found (record { sign = Sign.Before p; next = q.end; over = big }))
     go true lead is = (Sign.Before (Prefix.AtLeast n m), rw (is, grade, relation) refl, rw lead at spelt, stop, high, bigs ∙ overs)
     go false lead is = (Sign.Before (Prefix.AtMost n m), rw (is, grade, relation) refl, rw lead at spelt, stop, high, bigs ∙ overs)
 
-pub counted_missing : (text : List ℕ) (i : ℕ) (least : Bool) → get_or text i 0 ≡ lead_of least → PairIs text i Pair.Missing → StandsIs text i Lexed.Bad
-counted_missing text i true lead none = pair_missing text i 62 lead refl none
-counted_missing text i false lead none = pair_missing text i 60 lead refl none
+-- a fact
+pub fact : (text : List ℕ) (i : ℕ) (name : Number) → get_or text i 0 ≡ 110 → NumberIs text (i + 1) 255 (Some name)
+    → StandsIs text i (Lexed.Found (record { sign = Sign.Alone (Leaf.Fact name.value); next = name.end; over = ltb 255 name.value }))
+fact text i name first (n, whole, value, high) = (
+  Sign.Alone (Leaf.Fact n),
+  rw value refl,
+  record { first = first; number = whole.numeral },
+  whole.last,
+  high,
+  ap (ltb 255) value ∙ over_cut n,
+)

@@ -1,88 +1,103 @@
 // The next sign of a text.
-ghost use Rattle.std.specs.Prelude.{◌≡◌, ◌||◌, ◌+◌, ◌<◌, ◌≤◌, length, get_or};
+ghost use Rattle.std.specs.Prelude.{◌≡◌, ◌||◌, ◌+◌, ◌<◌, ◌≤◌, ltb, length, get_or};
 ghost use Rattle.grammar.specs.Lexed.{Skipped, RelationIs, PairIs, lead_of, counting_of, StandsIs, LexedIs};
 
 use crate::{Join, Leaf, Prefix, Sign};
-use numerals::{Number, number_at};
-use packed::byte_at;
+use numerals::number_at;
+use packed::item_or;
 
 // The largest number that a table's entry has room for.
 const MAX_NUMBER: u32 = 255;
 
-// What stands at a place behind spaces: a sign, with the place behind it and whether it has a number over 255; the text's end; or what
-// begins no sign.
+// A sign that was read: the place behind it, and whether it has a number over 255.
+#[derive(Clone, Copy)]
+pub struct Found {
+    pub sign: Sign,
+    pub next: usize,
+    pub over: bool,
+}
+
+// What stands at a place behind spaces: a sign, the text's end, or what begins no sign.
 #[derive(Clone, Copy)]
 pub enum Lexed {
-    Found(Sign, usize, bool),
+    Found(Found),
     End,
     Bad,
 }
 
-// A counting pair's grade and relation, with the place behind them; or no pair.
+// A counting pair's grade and relation, with the place behind them.
 #[derive(Clone, Copy)]
-pub enum Pair {
-    Read(u32, u32, usize),
-    Missing,
+pub struct Pair {
+    pub grade: u32,
+    pub relation: u32,
+    pub end: usize,
+}
+
+impl Pair {
+    // Whether one of its numbers is over 255.
+    fn is_over(self) -> bool
+        ensures { result ≡ ltb 255 self.grade || ltb 255 self.relation }
+    {
+        MAX_NUMBER < self.grade || MAX_NUMBER < self.relation
+    }
 }
 
 // The first place from `from` on that has no space.
+#[tactic(auto, using(crate::proofs::Text::another_space))]
 fn skip(text: &[u8], from: usize) -> usize
     requires { from ≤ length text.now }
     ensures { Skipped text.now from result }
 {
     let mut at = from;
-    while byte_at(text, at) == 32 {
+    while item_or(text, at, 0) == b' ' {
         at += 1;
     }
     at
 }
 
 // The relation of a pair whose grade has been read.
-fn relation_at(text: &[u8], grade: u32, at: usize) -> Pair
+fn relation_at(text: &[u8], grade: u32, at: usize) -> Option<Pair>
     requires { at ≤ length text.now }
     ensures { RelationIs text.now at grade result }
 {
-    if byte_at(text, at) != 114 {
-        return Pair::Missing;
+    if item_or(text, at, 0) != b'r' {
+        return None;
     }
-    match number_at(text, at + 1, MAX_NUMBER) {
-        Number::Missing => Pair::Missing,
-        Number::Read(relation, end) => Pair::Read(grade, relation, end),
-    }
+    let relation = number_at(text, at + 1, MAX_NUMBER)?;
+    Some(Pair {
+        grade,
+        relation: relation.value,
+        end: relation.end,
+    })
 }
 
 // The counting pair whose first byte, `>` or `<`, stands at a place.
-fn pair_at(text: &[u8], at: usize) -> Pair
+#[tactic(auto, using(crate::proofs::Text::pair))]
+fn pair_at(text: &[u8], at: usize) -> Option<Pair>
     requires { at < length text.now }
     ensures { PairIs text.now at result }
 {
-    if byte_at(text, at + 1) != 61 {
-        return Pair::Missing;
+    if item_or(text, at + 1, 0) != b'=' {
+        return None;
     }
-    match number_at(text, at + 2, MAX_NUMBER) {
-        Number::Missing => Pair::Missing,
-        Number::Read(grade, end) => relation_at(text, grade, skip(text, end)),
-    }
-}
-
-// Whether one of two is so.
-pub fn either(a: bool, b: bool) -> bool
-    ensures { result ≡ a || b }
-{
-    if a { true } else { b }
+    let grade = number_at(text, at + 2, MAX_NUMBER)?;
+    relation_at(text, grade.value, skip(text, grade.end))
 }
 
 // The fact whose `n` stands at a place.
+#[tactic(auto, using(crate::proofs::Text::fact))]
 fn fact_at(text: &[u8], at: usize) -> Lexed
     requires { (at < length text.now) × (get_or text.now at 0 ≡ 110) }
     ensures { StandsIs text.now at result }
 {
-    match number_at(text, at + 1, MAX_NUMBER) {
-        Number::Missing => Lexed::Bad,
-        Number::Read(name, end) => {
-            Lexed::Found(Sign::Alone(Leaf::Fact(name)), end, MAX_NUMBER < name)
-        }
-    }
+    let Some(name) = number_at(text, at + 1, MAX_NUMBER) else {
+        return Lexed::Bad;
+    };
+    Lexed::Found(Found {
+        sign: Sign::Alone(Leaf::Fact(name.value)),
+        next: name.end,
+        over: MAX_NUMBER < name.value,
+    })
 }
 
 // The prefix of a counting pair, "at least" or "at most".
@@ -101,14 +116,14 @@ fn counted_at(text: &[u8], at: usize, least: bool) -> Lexed
     requires { (at < length text.now) × (get_or text.now at 0 ≡ lead_of least) }
     ensures { StandsIs text.now at result }
 {
-    match pair_at(text, at) {
-        Pair::Missing => Lexed::Bad,
-        Pair::Read(grade, relation, end) => {
-            let over = either(MAX_NUMBER < grade, MAX_NUMBER < relation);
-            let prefix = counting(least, grade, relation);
-            Lexed::Found(Sign::Before(prefix), end, over)
-        }
-    }
+    let Some(pair) = pair_at(text, at) else {
+        return Lexed::Bad;
+    };
+    Lexed::Found(Found {
+        sign: Sign::Before(counting(least, pair.grade, pair.relation)),
+        next: pair.end,
+        over: pair.is_over(),
+    })
 }
 
 // The sign at a place that has no space.
@@ -116,24 +131,29 @@ fn stands_at(text: &[u8], at: usize) -> Lexed
     requires { at < length text.now }
     ensures { StandsIs text.now at result }
 {
-    let next = at + 1;
-    let b = byte_at(text, at);
-    match b {
-        84 => Lexed::Found(Sign::Alone(Leaf::True), next, false),
-        70 => Lexed::Found(Sign::Alone(Leaf::False), next, false),
-        110 => fact_at(text, at),
-        33 => Lexed::Found(Sign::Before(Prefix::Not), next, false),
+    let b = item_or(text, at, 0);
+    let sign = match b {
+        b'T' => Sign::Alone(Leaf::True),
+        b'F' => Sign::Alone(Leaf::False),
+        b'!' => Sign::Before(Prefix::Not),
+        b'&' => Sign::Between(Join::And),
+        b'|' => Sign::Between(Join::Or),
+        b'(' => Sign::Open,
+        b')' => Sign::Close,
+        b'n' => return fact_at(text, at),
         // One call for both: then it is compiled into this function, and no sign is handed on in memory.
-        60 | 62 => counted_at(text, at, b == 62),
-        38 => Lexed::Found(Sign::Between(Join::And), next, false),
-        124 => Lexed::Found(Sign::Between(Join::Or), next, false),
-        40 => Lexed::Found(Sign::Open, next, false),
-        41 => Lexed::Found(Sign::Close, next, false),
-        _ => Lexed::Bad,
-    }
+        b'>' | b'<' => return counted_at(text, at, b == b'>'),
+        _ => return Lexed::Bad,
+    };
+    Lexed::Found(Found {
+        sign,
+        next: at + 1,
+        over: false,
+    })
 }
 
 // The sign at a place from `from` on, behind spaces.
+#[tactic(auto, using(crate::proofs::Text::to_end, crate::proofs::Text::ended, crate::proofs::Text::lexed))]
 pub fn sign_at(text: &[u8], from: usize) -> Lexed
     requires { from ≤ length text.now }
     ensures { LexedIs text.now from result }

@@ -9,8 +9,6 @@ use lib.ListN.{length, get_or}
 use lib.Seq.{ext_get_or}
 use Rattle.packed.specs.Bytes.{big_endian_of}
 use Rattle.table.specs.Entry.{word_in}
-use Rattle.faults.specs.declared.Fault.TheVariants.{Draft}
-use Rattle.faults.specs.Verdict.{number_of}
 use Rattle.history.specs.declared.Draft.{Draft as DraftValue}
 use Rattle.history.specs.declared.Step.{Step}
 use Rattle.history.specs.History.{State, state}
@@ -39,11 +37,6 @@ packed_answers step before after d number long is stored kept =
     by_number s shows (suc n) some =
         let refused : number ≡ 0 → ⊥ = λ e. omega (arith, e, some) in
         rw (kept refused) (record { long = long; same = sym (shows ∙ is.kept refused) })
-
--- bytes of another length are a draft that no history gives
-pub other_length : (step : Step) (before : List ℕ) → (length before ≡ 273 → ⊥) → Answers BytesShow step before before (number_of Draft)
-other_length step before other =
-    record { given = λ steps packs. absurd (other packs.long); not_given = λ none. refl; kept = λ refused. refl }
 
 -- which bytes a history gives
 pub bytes_given : (bytes : List ℕ) → Given BytesShow bytes ↔ ((length bytes ≡ 273) × Sound (draft_in bytes))

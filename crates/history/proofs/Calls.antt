@@ -4,22 +4,20 @@ use mathlib.Core.Path.{◌≡◌, refl, sym, ap, ◌∙◌}
 use mathlib.Core.Logic.{◌↔◌, ◌⊎◌, inl, inr, ⊎_elim}
 use mathlib.Core.Bool.{Bool, true, false, ◌||◌}
 use mathlib.Core.List.{List, [], ◌∷◌}
-use mathlib.Core.Option.{Option, none, some}
 use Prim.Native.Nat.{ℕ, ◌+◌, ◌≤◌, ◌<◌}
 use native.Mathlib.Omega.{arith}
 use lib.Dec.{eqb, leb, ltb}
 use lib.ListN.{length, get_or}
 use borrow.Author.Tests.{eqb-true, eqb-false, leb-true, le-leb, lt-leb, ltb-true, lt-ltb}
+use Rattle.std.specs.Prelude.{Option, None, Some, is_none, Ok, Err}
 use Rattle.faults.specs.declared.Fault.TheVariants.{TableLength, Kind, UnusedField, Reference, Draft}
-use Rattle.faults.specs.declared.Verdict.{Verdict}
-use Rattle.faults.specs.declared.Verdict.TheVariants.{Accepted, Refused}
-use Rattle.faults.specs.Verdict.{refusal, refuse_if, and_then}
+use Rattle.faults.specs.Verdict.{Verdict, refusal, refuse_if, and_then}
 use Rattle.table.specs.Entry.{entry_of, word_in}
 use Rattle.table.specs.Check.{has_stray, refers_upward, entry_verdict}
 use Rattle.history.specs.declared.Draft.{Draft as DraftValue}
 use Rattle.history.specs.declared.Step.{Step}
 use Rattle.history.specs.declared.Step.TheVariants.{Add, Save, Back}
-use Rattle.history.specs.History.{State, fresh, is_none, verdict, state}
+use Rattle.history.specs.History.{State, fresh, verdict, state}
 use Rattle.history.specs.Shown.{Shows, draft_in, BytesShow}
 use Rattle.history.specs.Answered.{Given, Answers}
 use Rattle.history.specs.Sound.{Whole}
@@ -59,8 +57,8 @@ pub draft_known : (d : DraftValue) → Whole d → Given Shows d ⊎ (Given Show
 draft_known d whole = by_verdict (draft_verdict d) refl
   where
     by_verdict : (v : Verdict) → draft_verdict d ≡ v → Given Shows d ⊎ (Given Shows d → ⊥)
-    by_verdict Accepted ok = inl ((given_accepted d whole).1 ok)
-    by_verdict (Refused f) is = inr (λ given. let ok = (given_accepted d whole).0 given in let z : ◌≡◌ {A = ℕ} 0 1 = cc in absurd (omega arith))
+    by_verdict (Ok tt) ok = inl ((given_accepted d whole).1 ok)
+    by_verdict (Err f) is = inr (λ given. let ok = (given_accepted d whole).0 given in let z : ◌≡◌ {A = ℕ} 0 1 = cc in absurd (omega arith))
 
 pub bytes_known : (bytes : List ℕ) → Given BytesShow bytes ⊎ (Given BytesShow bytes → ⊥)
 bytes_known bytes = by_length (eqb (length bytes) 273) refl
@@ -109,18 +107,18 @@ if_16 : (b : Bool) → (refusal (refuse_if b Draft) ≡ 16) ↔ (b ≡ true)
 if_16 true = (λ is. refl, λ is. refl)
 if_16 false = (λ is. absurd (omega (arith, is)), λ is. let z : ◌≡◌ {A = ℕ} 0 1 = cc in absurd (omega arith))
 
-none_is : (o : Option (List ℕ)) → is_none o ≡ true → o ≡ none
-none_is none is = refl
-none_is (some copy) is = let z : ◌≡◌ {A = ℕ} 0 1 = cc in absurd (omega arith)
+none_is : (o : Option (List ℕ)) → is_none o ≡ true → o ≡ None
+none_is None is = refl
+none_is (Some copy) is = let z : ◌≡◌ {A = ℕ} 0 1 = cc in absurd (omega arith)
 
-either_16 : (name : ℕ) (o : Option (List ℕ)) → (ltb 15 name || is_none o ≡ true) → (15 < name) ⊎ (o ≡ none)
+either_16 : (name : ℕ) (o : Option (List ℕ)) → (ltb 15 name || is_none o ≡ true) → (15 < name) ⊎ (o ≡ None)
 either_16 name o is = by_test (ltb 15 name) refl is
   where
-    by_test : (b : Bool) → ltb 15 name ≡ b → b || is_none o ≡ true → (15 < name) ⊎ (o ≡ none)
+    by_test : (b : Bool) → ltb 15 name ≡ b → b || is_none o ≡ true → (15 < name) ⊎ (o ≡ None)
     by_test true over is' = inl (ltb-true 15 name over)
     by_test false less is' = inr (none_is o is')
 
-unsaved_16 : (name : ℕ) (o : Option (List ℕ)) → o ≡ none → ltb 15 name || is_none o ≡ true
+unsaved_16 : (name : ℕ) (o : Option (List ℕ)) → o ≡ None → ltb 15 name || is_none o ≡ true
 unsaved_16 name o is = by_test (ltb 15 name)
   where
     by_test : (b : Bool) → b || is_none o ≡ true
@@ -168,13 +166,13 @@ module _ {A : Type 0} (shows : A → State → Type 0) (before after : A) (numbe
 
   -- coming back: 16 exactly for such a draft, a name over 15 or one not saved
   pub back_16 : (name : ℕ) → Answers shows (Back name) before after number
-      → (number ≡ 16) ↔ ((Given shows before → ⊥) ⊎ (15 < name) ⊎ ((steps : List Step) × shows before (state steps) × ((state steps).saved name ≡ none)))
+      → (number ≡ 16) ↔ ((Given shows before → ⊥) ⊎ (15 < name) ⊎ ((steps : List Step) × shows before (state steps) × ((state steps).saved name ≡ None)))
   back_16 name is = (
     λ e.
         ⊎_elim
         (λ (given : Given shows before).
         let test = (if_16 (ltb 15 name || is_none ((state given.0).saved name))).0 (sym (is.given given.0 given.1).0 ∙ e) in
-        ⊎_elim (λ (over : 15 < name). inr (inl over)) (λ (none-there : (state given.0).saved name ≡ none). inr (inr (given.0, given.1, none-there)))
+        ⊎_elim (λ (over : 15 < name). inr (inl over)) (λ (none-there : (state given.0).saved name ≡ None). inr (inr (given.0, given.1, none-there)))
         (either_16 name ((state given.0).saved name) test))
         inl known,
     ⊎_elim is.not_given
@@ -184,7 +182,7 @@ module _ {A : Type 0} (shows : A → State → Type 0) (before after : A) (numbe
         (λ (given : Given shows before).
         (is.given given.0 given.1).0 ∙ (if_16 (ltb 15 name || is_none ((state given.0).saved name))).1 (rw (lt-ltb 15 name over)))
         is.not_given known)
-        (λ (there : (steps : List Step) × shows before (state steps) × ((state steps).saved name ≡ none)).
+        (λ (there : (steps : List Step) × shows before (state steps) × ((state steps).saved name ≡ None)).
         (is.given there.0 there.1).0
         ∙ (if_16 (ltb 15 name || is_none ((state there.0).saved name))).1 (unsaved_16 name ((state there.0).saved name) there.2))),
   )

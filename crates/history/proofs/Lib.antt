@@ -1,7 +1,5 @@
 -- lists by their elements
 pub mod Lists
--- lists that are filled from the front
-pub mod Filling
 -- what every history gives: good entries, and under each name the first of them
 pub mod Kept
 -- a draft tells as much of its history as the next step asks for

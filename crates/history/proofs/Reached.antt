@@ -3,7 +3,6 @@ use mathlib.Core.Path.{◌≡◌, refl, sym, ap, ◌∙◌}
 use mathlib.Core.Logic.{◌⊎◌, inl, inr, ◌↔◌, ⊎_elim, by_cases}
 use mathlib.Core.Bool.{Bool, true, false}
 use mathlib.Core.List.{List, [], ◌∷◌}
-use mathlib.Core.Option.{Option, none, some}
 use Prim.Native.Nat.{ℕ, zero, suc, ◌^◌, ◌<◌, ◌≤◌}
 use native.Mathlib.Decide.{dec_lt}
 use native.Mathlib.Nat.{not-suc-le-zero}
@@ -12,10 +11,11 @@ use lib.Dec.{eqb, leb, ltb, leb-suc-suc}
 use lib.ListN.{length, get_or, take, get_or-eq_default}
 use lib.Seq.{length-take-le, get_or-take, take-suc}
 use borrow.Author.Tests.{eqb-true, eqb-false, le-leb, lt-leb, lt-ltb, le-ltb, ne_eqb, eq-eqb}
+use Rattle.std.specs.Prelude.{Option, None, Some, if◌then◌else◌}
 use Rattle.history.specs.declared.Draft.{Draft as DraftValue}
 use Rattle.history.specs.declared.Step.{Step}
 use Rattle.history.specs.declared.Step.TheVariants.{Add, Save, Back}
-use Rattle.history.specs.History.{State, pick, fresh, next, state}
+use Rattle.history.specs.History.{State, fresh, next, state}
 use Rattle.history.specs.Shown.{listed, length_of, draft_of, Shows}
 use Rattle.history.specs.Answered.{Given}
 use Rattle.history.specs.Sound.{Sound}
@@ -45,8 +45,8 @@ words_behind s i past =
     get_or-eq_default (listed (λ j. get_or s.entries j 0) 64) 0 (omega (arith, length_listed (λ j. get_or s.entries j 0) 64)))
 
 length_sound : (s : State) → Kept s → (name : ℕ) (o : Option (List ℕ)) → s.saved name ≡ o → (length_of o ≡ 255) ⊎ (length_of o ≤ length s.entries)
-length_sound s k name none is = inl refl
-length_sound s k name (some copy) is = inr (k.copies name copy is).short
+length_sound s k name None is = inl refl
+length_sound s k name (Some copy) is = inr (k.copies name copy is).short
 
 kept_sound : (s : State) → Kept s → Sound (draft_of s)
 unfolding draft_of
@@ -64,7 +64,7 @@ kept_sound s k =
 -- the names below m of this length are saved
 saves : List ℕ → (many m : ℕ) → List Step → List Step
 saves lengths many zero earlier = earlier
-saves lengths many (suc m) earlier = pick (eqb (get_or lengths m 0) many) (Save m ∷ saves lengths many m earlier) (saves lengths many m earlier)
+saves lengths many (suc m) earlier = if eqb (get_or lengths m 0) many then Save m ∷ saves lengths many m earlier else saves lengths many m earlier
 
 composed : DraftValue → ℕ → List Step
 composed d zero = saves d.saved 0 16 []
@@ -72,7 +72,7 @@ composed d (suc n) = saves d.saved (suc n) 16 (Add (get_or d.entries n 0) ∷ co
 
 -- what is saved under a name, if it is already
 copy_of : DraftValue → ℕ → Bool → Option (List ℕ)
-copy_of d name there = pick there (some (take (get_or d.saved name 0) d.entries)) none
+copy_of d name there = if there then Some (take (get_or d.saved name 0) d.entries) else None
 
 -- n entries are there, and the names below m that have n entries are saved
 record Composing (d : DraftValue) (n m : ℕ) (s : State) : Type 0 where
@@ -115,7 +115,7 @@ passing d n m s small c other =
         (λ (g : ¬ (a < b)). le-ltb a b (omega arith) ∙ sym (lt-leb a b (omega (arith, ne))))
 
 one_name : (d : DraftValue) (n m : ℕ) (steps : List Step) → m < 16 → Composing d n m (state steps)
-    → (b : Bool) → eqb (get_or d.saved m 0) n ≡ b → Composing d n (suc m) (state (pick b (Save m ∷ steps) steps))
+    → (b : Bool) → eqb (get_or d.saved m 0) n ≡ b → Composing d n (suc m) (state (if b then Save m ∷ steps else steps))
 unfolding state
 one_name d n m steps small c true is = saving d n m (state steps) small c (eqb-true (get_or d.saved m 0) n is)
 one_name d n m steps small c false is = passing d n m (state steps) small c (eqb-false (get_or d.saved m 0) n is)
@@ -201,7 +201,7 @@ saves_asked lengths many zero earlier small asks = asks
 saves_asked lengths many (suc m) earlier small asks =
     by_test (eqb (get_or lengths m 0) many) (saves lengths many m earlier) (saves_asked lengths many m earlier (omega arith) asks)
   where
-    by_test : (b : Bool) (steps : List Step) → Asks steps → Asks (pick b (Save m ∷ steps) steps)
+    by_test : (b : Bool) (steps : List Step) → Asks steps → Asks (if b then Save m ∷ steps else steps)
     by_test true steps asked = (small, asked)
     by_test false steps asked = asked
 

@@ -3,7 +3,6 @@ use mathlib.Core.Path.{◌≡◌, refl, sym, ap, ◌∙◌}
 use mathlib.Core.Logic.{by_cases}
 use mathlib.Core.Bool.{Bool, true, false, ◌||◌}
 use mathlib.Core.List.{List, [], ◌∷◌, ◌++◌}
-use mathlib.Core.Option.{Option, none, some}
 use Prim.Native.Nat.{ℕ, ◌<◌, ◌≤◌}
 use native.Mathlib.Decide.{dec_lt}
 use native.Mathlib.Omega.{arith}
@@ -11,14 +10,14 @@ use lib.Dec.{eqb, leb, ltb}
 use lib.ListN.{length, get_or, set, length-append, length-set, get_or-append, get_or-eq_default}
 use lib.Seq.{get_or-append_seam, get_or-set_same, get_or-set_other}
 use borrow.Author.Tests.{ltb-true, ltb-false, leb-true, leb-false, lt-ltb, le-ltb, eqb-true, eqb-false, ne_eqb}
+use Rattle.std.specs.Prelude.{Option, None, Some, is_none, if◌then◌else◌}
 use Rattle.faults.specs.declared.Fault.TheVariants.{Draft}
-use Rattle.faults.specs.declared.Verdict.TheVariants.{Accepted}
-use Rattle.faults.specs.Verdict.{refuse_if}
+use Rattle.faults.specs.Verdict.{accepted, refuse_if}
 use Rattle.faults.proofs.Each.{not_refused, neither}
 use Rattle.history.specs.declared.Draft.{Draft as DraftValue}
 use Rattle.history.specs.declared.Step.{Step}
 use Rattle.history.specs.declared.Step.TheVariants.{Add, Save, Back}
-use Rattle.history.specs.History.{State, pick, remembered, restored, is_none, taken, verdict}
+use Rattle.history.specs.History.{State, remembered, restored, taken, verdict}
 use Rattle.history.specs.Shown.{listed, length_of, draft_of}
 use Rattle.history.specs.Stepping.{leading_words, up_to, own_verdict, stepped}
 use Rattle.history.proofs.Lists.{length_listed, get_d_listed, is_listed}
@@ -66,11 +65,11 @@ add_shown entry s room =
 
 -- a name's length set
 named : (saved : ℕ → Option (List ℕ)) (l : List ℕ) (name n : ℕ) → name < 16 → n < 16
-    → get_or (set (listed (λ m. length_of (saved m)) 16) name (length l)) n 0 ≡ length_of (pick (eqb n name) (some l) (saved n))
+    → get_or (set (listed (λ m. length_of (saved m)) 16) name (length l)) n 0 ≡ length_of (if eqb n name then Some l else saved n)
 named saved l name n inside h = by_test (eqb n name) refl
   where
     by_test : (b : Bool) → eqb n name ≡ b
-        → get_or (set (listed (λ m. length_of (saved m)) 16) name (length l)) n 0 ≡ length_of (pick b (some l) (saved n))
+        → get_or (set (listed (λ m. length_of (saved m)) 16) name (length l)) n 0 ≡ length_of (if b then Some l else saved n)
     by_test true is =
         rw (eqb-true n name is)
         (get_or-set_same (listed (λ m. length_of (saved m)) 16) name (length l) 0 (omega (arith, length_listed (λ m. length_of (saved m)) 16)))
@@ -81,25 +80,25 @@ save_shown : (name : ℕ) (s : State) → name < 16 → stepped (Save name) (dra
 unfolding draft_of
 save_shown name s inside =
     same_draft refl
-    (is_listed (set (listed (λ m. length_of (s.saved m)) 16) name (length s.entries)) (λ n. length_of (pick (eqb n name) (some s.entries) (s.saved n))) 16
+    (is_listed (set (listed (λ m. length_of (s.saved m)) 16) name (length s.entries)) (λ n. length_of (if eqb n name then Some s.entries else s.saved n)) 16
     (length-set (listed (λ m. length_of (s.saved m)) 16) name (length s.entries) ∙ length_listed (λ m. length_of (s.saved m)) 16)
     (λ n h. named s.saved s.entries name n inside h))
     refl
 
 -- the words of a copy: the first words, and 0 behind them
-copied : (copy l : List ℕ) → First copy l → (i : ℕ) → i < 64 → pick (ltb i (length copy)) (get_or (listed (λ j. get_or l j 0) 64) i 0) 0 ≡ get_or copy i 0
+copied : (copy l : List ℕ) → First copy l → (i : ℕ) → i < 64 → (if ltb i (length copy) then get_or (listed (λ j. get_or l j 0) 64) i 0 else 0) ≡ get_or copy i 0
 copied copy l f i h = by_test (ltb i (length copy)) refl
   where
-    by_test : (b : Bool) → ltb i (length copy) ≡ b → pick b (get_or (listed (λ j. get_or l j 0) 64) i 0) 0 ≡ get_or copy i 0
+    by_test : (b : Bool) → ltb i (length copy) ≡ b → (if b then get_or (listed (λ j. get_or l j 0) 64) i 0 else 0) ≡ get_or copy i 0
     by_test true is = get_d_listed (λ j. get_or l j 0) 64 i h ∙ sym (first_at f i (ltb-true i (length copy) is))
     by_test false is = sym (get_or-eq_default copy 0 (ltb-false i (length copy) is))
 
 -- a saved length with more entries is forgotten, as the copy is
-forgotten : (many : ℕ) (o : Option (List ℕ)) → many ≤ 64 → pick (ltb many (length_of o)) 255 (length_of o) ≡ length_of (remembered many o)
-forgotten many none few = rw (lt-ltb many 255 (omega arith))
-forgotten many (some copy) few = by_test (leb (length copy) many) refl
+forgotten : (many : ℕ) (o : Option (List ℕ)) → many ≤ 64 → (if ltb many (length_of o) then 255 else length_of o) ≡ length_of (remembered many o)
+forgotten many None few = rw (lt-ltb many 255 (omega arith))
+forgotten many (Some copy) few = by_test (leb (length copy) many) refl
   where
-    by_test : (b : Bool) → leb (length copy) many ≡ b → pick (ltb many (length copy)) 255 (length copy) ≡ length_of (pick b (some copy) none)
+    by_test : (b : Bool) → leb (length copy) many ≡ b → (if ltb many (length copy) then 255 else length copy) ≡ length_of (if b then Some copy else None)
     by_test true is = rw (le-ltb many (length copy) (leb-true (length copy) many is))
     by_test false is = rw (lt-ltb many (length copy) (leb-false (length copy) many is))
 
@@ -108,8 +107,8 @@ pub saved_length : (s : State) (name : ℕ) → name < 16 → get_or (draft_of s
 unfolding draft_of
 saved_length s name inside = get_d_listed (λ m. length_of (s.saved m)) 16 name inside
 
-back_shown : (name : ℕ) (s : State) → Kept s → (copy : List ℕ) → s.saved name ≡ some copy → name < 16
-    → stepped (Back name) (draft_of s) ≡ draft_of (restored (some copy) s)
+back_shown : (name : ℕ) (s : State) → Kept s → (copy : List ℕ) → s.saved name ≡ Some copy → name < 16
+    → stepped (Back name) (draft_of s) ≡ draft_of (restored (Some copy) s)
 unfolding draft_of
 back_shown name s k copy is inside =
     let f = k.copies name copy is in
@@ -121,14 +120,14 @@ back_shown name s k copy is inside =
     (is_listed (up_to (length copy) (listed (λ m. length_of (s.saved m)) 16)) (λ n. length_of (remembered (length copy) (s.saved n))) 16 (length_listed _ 16)
     (λ n h.
     get_d_listed _ 16 n h
-    ∙ ap (λ (x : ℕ). pick (ltb (length copy) x) 255 x) (get_d_listed (λ m. length_of (s.saved m)) 16 n h)
+    ∙ ap (λ (x : ℕ). if ltb (length copy) x then 255 else x) (get_d_listed (λ m. length_of (s.saved m)) 16 n h)
     ∙ forgotten (length copy) (s.saved n) (omega (arith, f.short, k.few))))
     refl)
 
 -- a name that is not saved has 255, which is no length
-unsaved : (o : Option (List ℕ)) → ((copy : List ℕ) → o ≡ some copy → length copy ≤ 64) → eqb (length_of o) 255 ≡ is_none o
-unsaved none few = refl
-unsaved (some copy) few = let short = few copy refl in ne_eqb (length copy) 255 (λ e. omega (arith, e, short))
+unsaved : (o : Option (List ℕ)) → ((copy : List ℕ) → o ≡ Some copy → length copy ≤ 64) → eqb (length_of o) 255 ≡ is_none o
+unsaved None few = refl
+unsaved (Some copy) few = let short = few copy refl in ne_eqb (length copy) 255 (λ e. omega (arith, e, short))
 
 -- the step is refused for the same
 pub own_verdict_is : (step : Step) (s : State) → Kept s → own_verdict step (draft_of s) ≡ verdict step s
@@ -148,12 +147,12 @@ own_verdict_is (Back name) s k = by_test (ltb 15 name) refl
 
 back_taken : (name : ℕ) (s : State) → Kept s → (o : Option (List ℕ)) → s.saved name ≡ o → ltb 15 name || is_none o ≡ false
     → stepped (Back name) (draft_of s) ≡ draft_of (restored o s)
-back_taken name s k none is ok = let z : ◌≡◌ {A = ℕ} 0 1 = let e = (neither (ltb 15 name) true ok).1 in cc in absurd (omega arith)
-back_taken name s k (some copy) is ok =
+back_taken name s k None is ok = let z : ◌≡◌ {A = ℕ} 0 1 = let e = (neither (ltb 15 name) true ok).1 in cc in absurd (omega arith)
+back_taken name s k (Some copy) is ok =
     back_shown name s k copy is (omega (arith, ltb-false 15 name (neither (ltb 15 name) false ok).0))
 
 -- and what it makes of the draft is what the history has
-pub own_step : (step : Step) (s : State) → Kept s → verdict step s ≡ Accepted → stepped step (draft_of s) ≡ draft_of (taken step s)
+pub own_step : (step : Step) (s : State) → Kept s → verdict step s ≡ accepted → stepped step (draft_of s) ≡ draft_of (taken step s)
 own_step (Add entry) s k ok = add_shown entry s (accepted_entry entry s ok).0
 own_step (Save name) s k ok = save_shown name s (omega (arith, ltb-false 15 name (not_refused (ltb 15 name) Draft ok)))
 own_step (Back name) s k ok = back_taken name s k (s.saved name) refl (not_refused (ltb 15 name || is_none (s.saved name)) Draft ok)

@@ -5,7 +5,6 @@ use Prim.Native.Nat.{ℕ, ◌*◌, ◌<◌, ◌≤◌}
 use native.Mathlib.Omega.{arith}
 use lib.ListN.{length, get_or, take}
 use lib.Seq.{length-take-le, get_or-take}
-use Rattle.faults.specs.declared.Verdict.TheVariants.{Accepted}
 use Rattle.faults.proofs.Each.{all_accepted}
 use Rattle.packed.proofs.Bytes.{same_bytes}
 use Rattle.table.specs.Entry.{word_in, entry_in}
@@ -17,6 +16,7 @@ use Rattle.history.specs.Shown.{draft_in, BytesShow}
 use Rattle.history.proofs.Lists.{get_d_listed}
 use Rattle.history.proofs.Kept.{kept}
 use Rattle.history.proofs.Reached.{shown_count, shown_word}
+use Rattle.faults.specs.Verdict.{accepted}
 
 -- the first bytes spell the entries
 module _ (steps : List Step) (bytes : List ℕ) (n : ℕ) (all : n ≡ length (state steps).entries) (room : 4 * n ≤ length bytes)
@@ -25,7 +25,7 @@ module _ (steps : List Step) (bytes : List ℕ) (n : ℕ) (all : n ≡ length (s
   unfolding word_in
   table_words i h = same_bytes (take (4 * n) bytes) bytes (4 * i) 4 (λ k low high. get_or-take (4 * n) bytes k 0 (omega arith)) ∙ there i h
 
-  pub table_accepted : 1 ≤ n → table_verdict (take (4 * n) bytes) ≡ Accepted
+  pub table_accepted : 1 ≤ n → table_verdict (take (4 * n) bytes) ≡ accepted
   table_accepted some =
       entries_accepted (take (4 * n) bytes) n (length-take-le (4 * n) bytes room) some (omega (arith, (kept steps).few))
       (all_accepted (λ i. entry_verdict (entry_in (take (4 * n) bytes) i) i) n
@@ -42,7 +42,7 @@ unfolding draft_in
 packed_count steps bytes shown = shown_count (state steps) (sym shown.same)
 
 pub packed_table : (steps : List Step) (bytes : List ℕ) → BytesShow bytes (state steps) → 1 ≤ get_or bytes 256 0
-    → table_verdict (take (4 * get_or bytes 256 0) bytes) ≡ Accepted
+    → table_verdict (take (4 * get_or bytes 256 0) bytes) ≡ accepted
 packed_table steps bytes shown some =
     let count = packed_count steps bytes shown in
     let few = (kept steps).few in

@@ -1,11 +1,8 @@
 -- Drafts to return to: document 02, P9, in its words. A history is a list of steps from a fresh draft on; it keeps what was saved as a
 -- copy of the entries.
-use Rattle.std.specs.Prelude.{Bool, true, false, ◌||◌, List, [], ◌∷◌, ◌++◌, ℕ, eqb, leb, ltb, length}
-use Rattle.std.proofs.Math.Option.{Option, none, some}
+use Rattle.std.specs.Prelude.{Option, None, Some, is_none, if◌then◌else◌, Ok, Err, ◌||◌, List, [], ◌∷◌, ◌++◌, ℕ, eqb, leb, ltb, length}
 use Rattle.faults.specs.declared.Fault.TheVariants.{TableLength, Draft}
-use Rattle.faults.specs.declared.Verdict.{Verdict}
-use Rattle.faults.specs.declared.Verdict.TheVariants.{Accepted, Refused}
-use Rattle.faults.specs.Verdict.{refuse_if, and_then}
+use Rattle.faults.specs.Verdict.{Verdict, refuse_if, and_then}
 use Rattle.table.specs.Entry.{entry_of}
 use Rattle.table.specs.Check.{entry_verdict}
 use Rattle.history.specs.declared.Step.{Step}
@@ -16,35 +13,26 @@ pub record State : Type 0 where
   pub entries : List ℕ
   pub saved : ℕ → Option (List ℕ)
 
--- the first of two where the test is true, the second where it is false
-abbrev pub pick : {A : Type 0} → Bool → A → A → A
-pick true a b = a
-pick false a b = b
-
 -- "A fresh draft is empty with no name saved."
 abbrev pub fresh : State
-fresh = record { entries = []; saved = λ name. none }
+fresh = record { entries = []; saved = λ name. None }
 
 -- "forgets names saved with more entries" than so many
 abbrev pub remembered : ℕ → Option (List ℕ) → Option (List ℕ)
-remembered many none = none
-remembered many (some copy) = pick (leb (length copy) many) (some copy) none
+remembered many None = None
+remembered many (Some copy) = if leb (length copy) many then Some copy else None
 
 -- "Coming back restores exactly the saved entries"
 abbrev pub restored : Option (List ℕ) → State → State
-restored none s = s
-restored (some copy) s = record { entries = copy; saved = λ name. remembered (length copy) (s.saved name) }
+restored None s = s
+restored (Some copy) s = record { entries = copy; saved = λ name. remembered (length copy) (s.saved name) }
 
 -- what a step makes of a state, if it is not refused: ".. adds entries, saves the draft under a name 0 to 15 and comes back to it";
 -- "Saving to a used name replaces it."
 abbrev pub taken : Step → State → State
 taken (Add entry) s = record { entries = s.entries ++ (entry ∷ []); saved = s.saved }
-taken (Save name) s = record { entries = s.entries; saved = λ n. pick (eqb n name) (some s.entries) (s.saved n) }
+taken (Save name) s = record { entries = s.entries; saved = λ n. if eqb n name then Some s.entries else s.saved n }
 taken (Back name) s = restored (s.saved name) s
-
-abbrev pub is_none : Option (List ℕ) → Bool
-is_none none = true
-is_none (some copy) = false
 
 -- "Adding a 65th entry gives 1, a bad entry gives 2, 3 or 4"; 16 for "a name over 15 or, when coming back, one not saved"
 abbrev pub verdict : Step → State → Verdict
@@ -55,8 +43,8 @@ verdict (Back name) s = refuse_if (ltb 15 name || is_none (s.saved name)) Draft
 
 -- "A refused step changes nothing": the next of two where the verdict accepts, the present one where it refuses
 abbrev pub unless : {A : Type 0} → Verdict → A → A → A
-unless Accepted next now = next
-unless (Refused f) next now = now
+unless (Ok tt) next now = next
+unless (Err f) next now = now
 
 abbrev pub next : Step → State → State
 next step s = unless (verdict step s) (taken step s) s

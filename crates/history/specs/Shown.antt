@@ -1,6 +1,5 @@
 -- What a history gives, as a draft by value: document 02, P9, and the packed draft of the calls for C.
-use Rattle.std.specs.Prelude.{◌≡◌, List, [], ◌∷◌, ◌++◌, ℕ, zero, suc, ◌+◌, length, get_or}
-use Rattle.std.proofs.Math.Option.{Option, none, some}
+use Rattle.std.specs.Prelude.{Option, None, Some, ◌≡◌, List, [], ◌∷◌, ◌++◌, ℕ, zero, suc, ◌+◌, length, get_or}
 use Rattle.table.specs.Entry.{word_in}
 use Rattle.history.specs.declared.Draft.{Draft}
 use Rattle.history.specs.History.{State}
@@ -12,8 +11,8 @@ listed f (suc n) = listed f n ++ (f n ∷ [])
 
 -- how many entries are saved, 255 for "not saved"
 abbrev pub length_of : Option (List ℕ) → ℕ
-length_of none = 255
-length_of (some copy) = length copy
+length_of None = 255
+length_of (Some copy) = length copy
 
 -- the entries, with 0 behind them ("clears the bytes behind them"), the saved lengths of the 16 names, the number of entries
 unfoldable pub draft_of : State → Draft

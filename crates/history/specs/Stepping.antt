@@ -1,24 +1,18 @@
 -- The steps on drafts by value, as the code takes them. An inner contract.
-use Rattle.std.specs.Prelude.{Bool, true, false, not, ◌||◌, List, ℕ, ◌+◌, eqb, leb, ltb, get_or, set}
+use Rattle.std.specs.Prelude.{if◌then◌else◌, is_err, Bool, not, ◌||◌, List, ℕ, ◌+◌, eqb, leb, ltb, get_or, set}
 use Rattle.faults.specs.declared.Fault.TheVariants.{TableLength, Draft}
-use Rattle.faults.specs.declared.Verdict.{Verdict}
-use Rattle.faults.specs.declared.Verdict.TheVariants.{Accepted, Refused}
-use Rattle.faults.specs.Verdict.{refuse_if, and_then, each}
+use Rattle.faults.specs.Verdict.{Verdict, refuse_if, and_then, each}
 use Rattle.table.specs.Entry.{entry_of}
 use Rattle.table.specs.Check.{entry_verdict}
 use Rattle.history.specs.declared.Draft.{Draft as DraftValue}
 use Rattle.history.specs.declared.Step.{Step}
 use Rattle.history.specs.declared.Step.TheVariants.{Add, Save, Back}
-use Rattle.history.specs.History.{pick, unless}
+use Rattle.history.specs.History.{unless}
 use Rattle.history.specs.Shown.{listed}
-
-abbrev pub refuses : Verdict → Bool
-refuses Accepted = false
-refuses (Refused f) = true
 
 -- word i of a draft with so many entries is neither a good entry nor, behind them, 0
 abbrev pub bad_word : (count word i : ℕ) → Bool
-bad_word count word i = pick (ltb i count) (refuses (entry_verdict (entry_of word) i)) (not (eqb word 0))
+bad_word count word i = if ltb i count then is_err (entry_verdict (entry_of word) i) else not (eqb word 0)
 
 abbrev pub word_verdict : (count word i : ℕ) → Verdict
 word_verdict count word i = refuse_if (bad_word count word i) Draft
@@ -52,11 +46,11 @@ step_verdict step d = and_then (draft_verdict d) (own_verdict step d)
 
 -- the first words, and 0 behind them
 abbrev pub leading_words : ℕ → List ℕ → List ℕ
-leading_words many words = listed (λ i. pick (ltb i many) (get_or words i 0) 0) 64
+leading_words many words = listed (λ i. if ltb i many then get_or words i 0 else 0) 64
 
 -- the saved lengths that are not greater, the others forgotten
 abbrev pub up_to : ℕ → List ℕ → List ℕ
-up_to many saved = listed (λ name. pick (ltb many (get_or saved name 0)) 255 (get_or saved name 0)) 16
+up_to many saved = listed (λ name. if ltb many (get_or saved name 0) then 255 else get_or saved name 0) 16
 
 abbrev pub stepped : Step → DraftValue → DraftValue
 stepped (Add entry) d = record { entries = set d.entries d.count entry; saved = d.saved; count = d.count + 1 }

@@ -3,6 +3,7 @@
 use mathlib.Core.Path.{◌≡◌, sym, ap, ◌∙◌}
 use mathlib.Core.Logic.Iff
 use mathlib.Core.Logic.{◌↔◌}
+use mathlib.Core.Bool.{Bool}
 use mathlib.Core.List.{List}
 use Prim.Native.Nat.{ℕ, ◌+◌, ◌*◌, ◌<◌}
 use lib.Dec.{ltb}
@@ -13,10 +14,9 @@ use Rattle.semantics.specs.Plain.{Plain, plain_truth, PlainSatisfiable, single, 
 use Rattle.semantics.proofs.Plain.{single_truth, fourfold_truth, satisfiable_plain}
 use Rattle.sets.specs.Word.{bit_at, word}
 use Rattle.sets.proofs.Words.{bit_word, word_ext}
+use Rattle.faults.specs.declared.Fault.{Fault}
 use Rattle.faults.specs.declared.Fault.TheVariants.{Space}
-use Rattle.faults.specs.declared.Verdict.{Verdict}
-use Rattle.faults.specs.declared.Verdict.TheVariants.{Accepted}
-use Rattle.faults.specs.Verdict.{refuse_if, and_then}
+use Rattle.faults.specs.Verdict.{Verdict, accepted, refuse_if, and_then}
 use Rattle.table.specs.declared.entry.Entry.{Entry}
 use Rattle.table.specs.Entry.{entry_in, size}
 use Rattle.table.specs.Formulas.{formula_at}
@@ -25,14 +25,13 @@ use Rattle.structure.specs.Read.{structure_of}
 use Rattle.structure.specs.Plain.{NoCopies, plain_verdict, plain_structure}
 use Rattle.structure.proofs.Plain.{verdict_plain, structure_plain}
 use Rattle.truth_table.specs.Board.{truth_word, board_verdict, Filled, BoardAfter}
-use Rattle.decision.specs.declared.Decision.{Decision}
 use Rattle.decision.specs.Decide.{number_of as decided, decide_verdict, DecisionIs}
 use Rattle.decision.specs.Call.{pair_verdict}
 use Rattle.mark.specs.declared.Mark.{Mark}
-use Rattle.mark.specs.declared.Marking.{Marking}
 use Rattle.mark.specs.Mark.{number_of as mark_number, marking_number, MarkingIs}
 use Rattle.mark.specs.Plain.{PlainMarkIs}
 use Rattle.mark.proofs.Plain.{plain_mark}
+use Rattle.std.specs.Prelude.{Result}
 use Rattle.hurnavis.proofs.Demands.{decision_possible, mark_exactly}
 
 -- where every link has one copy, a word is that of the structure without copies
@@ -47,7 +46,7 @@ plain_board_verdict bytes packed words = and_then (table_verdict bytes) (and_the
 module _ (bytes packed before after : List ℕ) (r : Verdict) (is : r ≡ board_verdict bytes packed (length before)) (done : BoardAfter bytes packed before r after)
   where
     -- For a call without a fault: bit w of word i is the truth of entry i at each of the four standings of w.
-    pub board_fourfold : board_verdict bytes packed (length before) ≡ Accepted → (i : ℕ) → i < size bytes → (w k : ℕ) → w < (structure_of packed).worlds → k < 4
+    pub board_fourfold : board_verdict bytes packed (length before) ≡ accepted → (i : ℕ) → i < size bytes → (w k : ℕ) → w < (structure_of packed).worlds → k < 4
         → bit_at (get_or after i 0) w ≡ plain_truth (fourfold (structure_of packed)) (formula_at (entry_in bytes) i) (4 * w + k)
     board_fourfold ok i inside w k l b =
         let filled : Filled (structure_of packed) (entry_in bytes) (size bytes) before after = rw (is ∙ ok) at done in
@@ -56,7 +55,7 @@ module _ (bytes packed before after : List ℕ) (r : Verdict) (is : r ≡ board_
 
     -- A drawing with no copies is refused for the same as before, and gives the same words.
     pub board_plain : NoCopies packed → (r ≡ plain_board_verdict bytes packed (length before))
-        × (board_verdict bytes packed (length before) ≡ Accepted → (i : ℕ) → i < size bytes
+        × (board_verdict bytes packed (length before) ≡ accepted → (i : ℕ) → i < size bytes
         → get_or after i 0 ≡ word (plain_truth (plain_structure packed) (formula_at (entry_in bytes) i)) (plain_structure packed).worlds)
     board_plain bare = (
       is ∙ ap (λ (v : Verdict). and_then (table_verdict bytes) (and_then v (refuse_if (ltb (length before) (size bytes)) Space))) (verdict_plain packed bare),
@@ -66,12 +65,12 @@ module _ (bytes packed before after : List ℕ) (r : Verdict) (is : r ≡ board_
     )
 
 -- A call without a fault answers 1, possible, exactly when some finite structure without copies has a world where the entry is true.
-pub decision_plain : (bytes : List ℕ) (e : ℕ) (before after : List ℕ) (r : Decision) → DecisionIs bytes e before after r
-    → decide_verdict bytes e (length before) ≡ Accepted → (decided r ≡ 1) ↔ PlainSatisfiable (formula_at (entry_in bytes) e)
+pub decision_plain : (bytes : List ℕ) (e : ℕ) (before after : List ℕ) (r : Result Bool Fault) → DecisionIs bytes e before after r
+    → decide_verdict bytes e (length before) ≡ accepted → (decided r ≡ 1) ↔ PlainSatisfiable (formula_at (entry_in bytes) e)
 decision_plain bytes e before after r is ok = Iff.trans (decision_possible bytes e before after r is ok) (satisfiable_plain (formula_at (entry_in bytes) e))
 
 -- It answers the number of a mark exactly when that mark fits by structures without copies.
-pub mark_plain : (bytes : List ℕ) (model answer : ℕ) (before after : List ℕ) (r : Marking) → MarkingIs bytes model answer before after r
-    → pair_verdict bytes model answer (length before) ≡ Accepted
+pub mark_plain : (bytes : List ℕ) (model answer : ℕ) (before after : List ℕ) (r : Result Mark Fault) → MarkingIs bytes model answer before after r
+    → pair_verdict bytes model answer (length before) ≡ accepted
     → (m : Mark) → (marking_number r ≡ mark_number m) ↔ PlainMarkIs (formula_at (entry_in bytes) model) (formula_at (entry_in bytes) answer) m
 mark_plain bytes model answer before after r is ok m = Iff.trans (mark_exactly bytes model answer before after r is ok m) (plain_mark _ _ m)

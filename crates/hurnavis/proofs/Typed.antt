@@ -11,9 +11,8 @@ use lib.Seq.{length-take-le, get_or-take, get_or-drop, ext_get_or}
 use borrow.Author.Tests.{ltb-true, ltb-false, lt-ltb}
 use Rattle.faults.specs.declared.Fault.{Fault}
 use Rattle.faults.specs.declared.Fault.TheVariants.{Space, TextLimit}
-use Rattle.faults.specs.declared.Verdict.TheVariants.{Accepted, Refused}
-use Rattle.faults.specs.Verdict.{number_of, refusal, refuse_if, and_then}
-use Rattle.faults.proofs.Numbers.{refused_number, accepted_number, no_fault}
+use Rattle.faults.specs.Verdict.{accepted, number_of, refusal, refuse_if, and_then}
+use Rattle.faults.proofs.Numbers.{no_fault}
 use Rattle.packed.proofs.Bytes.{same_bytes}
 use Rattle.table.specs.Entry.{entry_of, entry_in, word_in}
 use Rattle.table.specs.Formulas.{formula_at}
@@ -23,11 +22,11 @@ use Rattle.postorder.proofs.Meaning.{ordered_means, ordered_ext, ordered_accepte
 use Rattle.grammar.specs.Tree.{Tree, formula}
 use Rattle.grammar.specs.Fits.{Fits}
 use Rattle.grammar.proofs.Unique.{one_tree_fits}
-use Rattle.typed.specs.declared.Reading.{Reading}
 use Rattle.typed.specs.Written.{over_limit}
-use Rattle.typed.specs.Reading.{refusal as text_refusal, NoTree, tree_verdict, RefusedFor, ReadingIs}
+use Rattle.typed.specs.Reading.{NoTree, tree_verdict, RefusedFor, ReadingIs}
 use Rattle.typed.proofs.Progress.{within}
-use Rattle.hurnavis.proofs.Demands.{Refuses}
+use Rattle.hurnavis.proofs.Demands.{Refuses, first_fault}
+use Rattle.std.specs.Prelude.{Result, Ok, Err}
 
 -- a tree is refused for 12 or 10, and for nothing else
 never_11 : (over short : Bool) → refusal (and_then (refuse_if over TextLimit) (refuse_if short Space)) ≡ 11 → ⊥
@@ -49,42 +48,42 @@ abbrev short : List ℕ → Tree → Bool
 short before t = ltb (length before) (4 * size (formula t))
 
 module _ (text before after : List ℕ) where
-  refused_tree : (f : Fault) → RefusedFor text (length before) f → (t : Tree) → Fits text t → tree_verdict text t (length before) ≡ Refused f
+  refused_tree : (f : Fault) → RefusedFor text (length before) f → (t : Tree) → Fits text t → tree_verdict text t (length before) ≡ Err f
   refused_tree f (inl none) t fits = absurd (none.1 t fits)
   refused_tree f (inr (s, fits-s, verdict)) t fits = rw (one_tree_fits text t s fits fits-s) verdict
 
   -- the number is that of the tree's verdict, or 11 where there is no tree
-  with_tree : (r : Reading) → ReadingIs text before after r → (t : Tree) → Fits text t → text_refusal r ≡ refusal (tree_verdict text t (length before))
-  with_tree (Reading.Entries n) is t fits =
-      let accepted : tree_verdict text t (length before) ≡ Accepted = rw (one_tree_fits text t is.0 fits is.1) is.2 in
+  with_tree : (r : Result ℕ Fault) → ReadingIs text before after r → (t : Tree) → Fits text t → refusal r ≡ refusal (tree_verdict text t (length before))
+  with_tree (Ok n) is t fits =
+      let accepted : tree_verdict text t (length before) ≡ accepted = rw (one_tree_fits text t is.0 fits is.1) is.2 in
       sym (ap refusal accepted)
-  with_tree (Reading.Refused f) is t fits = sym (ap refusal (refused_tree f is.0 t fits))
+  with_tree (Err f) is t fits = sym (ap refusal (refused_tree f is.0 t fits))
 
-  no_tree : (r : Reading) → ReadingIs text before after r → NoTree text → text_refusal r ≡ 11
-  no_tree (Reading.Entries n) is none = absurd (none is.0 is.1)
-  no_tree (Reading.Refused f) (inl outside, kept) none = ap number_of outside.0
-  no_tree (Reading.Refused f) (inr found, kept) none = absurd (none found.0 found.1)
+  no_tree : (r : Result ℕ Fault) → ReadingIs text before after r → NoTree text → refusal r ≡ 11
+  no_tree (Ok n) is none = absurd (none is.0 is.1)
+  no_tree (Err f) (inl outside, kept) none = ap number_of outside.0
+  no_tree (Err f) (inr found, kept) none = absurd (none found.0 found.1)
 
-  some_tree : (r : Reading) → ReadingIs text before after r → (text_refusal r ≡ 11 → ⊥) → (t : Tree) × Fits text t
-  some_tree (Reading.Entries n) is other = (is.0, is.1)
-  some_tree (Reading.Refused f) (inl outside, kept) other = absurd (other (ap number_of outside.0))
-  some_tree (Reading.Refused f) (inr found, kept) other = (found.0, found.1)
+  some_tree : (r : Result ℕ Fault) → ReadingIs text before after r → (refusal r ≡ 11 → ⊥) → (t : Tree) × Fits text t
+  some_tree (Ok n) is other = (is.0, is.1)
+  some_tree (Err f) (inl outside, kept) other = absurd (other (ap number_of outside.0))
+  some_tree (Err f) (inr found, kept) other = (found.0, found.1)
 
-  keeps : (r : Reading) → ReadingIs text before after r → (f : Fault) → text_refusal r ≡ number_of f → after ≡ before
-  keeps (Reading.Entries n) is f refused = absurd (no_fault f (sym refused))
-  keeps (Reading.Refused g) is f refused = is.1
+  keeps : (r : Result ℕ Fault) → ReadingIs text before after r → (f : Fault) → refusal r ≡ number_of f → after ≡ before
+  keeps (Ok n) is f refused = absurd (no_fault f (sym refused))
+  keeps (Err g) is f refused = is.1
 
-  module _ (r : Reading) (is : ReadingIs text before after r) where
+  module _ (r : Result ℕ Fault) (is : ReadingIs text before after r) where
     -- 11 exactly when no tree fits the text
-    pub text_11 : (text_refusal r ≡ 11) ↔ NoTree text
+    pub text_11 : (refusal r ≡ 11) ↔ NoTree text
     text_11 = (λ number t fits. never_11 (over_limit text t) (short before t) (sym (with_tree r is t fits) ∙ number), no_tree r is)
 
     -- of a text with a tree, the number is that of the first of 12 and 10, and 0 exactly where there is no fault
-    pub text_refused : (t : Tree) → Fits text t → Refuses (tree_verdict text t (length before)) (text_refusal r)
-    text_refused t fits = rw (with_tree r is t fits) (record { refused = refused_number _; answered = accepted_number _ })
+    pub text_refused : (t : Tree) → Fits text t → Refuses (tree_verdict text t (length before)) (refusal r)
+    text_refused t fits = rw (with_tree r is t fits) (first_fault _)
 
     -- 12 exactly when a tree fits, and the text is over 1,024 bytes, has a number over 255 or makes over 64 entries
-    pub text_12 : (text_refusal r ≡ 12) ↔ ((t : Tree) × Fits text t × (over_limit text t ≡ true))
+    pub text_12 : (refusal r ≡ 12) ↔ ((t : Tree) × Fits text t × (over_limit text t ≡ true))
     text_12 = (
       λ number.
           let found = some_tree r is (λ other. omega (arith, number, other)) in
@@ -93,7 +92,7 @@ module _ (text before after : List ℕ) where
     )
 
     -- 10 exactly when a tree fits within the limits, and the lent bytes are fewer than 4 for each entry
-    pub text_10 : (text_refusal r ≡ 10) ↔ ((t : Tree) × Fits text t × (over_limit text t ≡ false) × (length before < 4 * size (formula t)))
+    pub text_10 : (refusal r ≡ 10) ↔ ((t : Tree) × Fits text t × (over_limit text t ≡ false) × (length before < 4 * size (formula t)))
     text_10 = (
       λ number.
           let found = some_tree r is (λ other. omega (arith, number, other)) in
@@ -103,18 +102,18 @@ module _ (text before after : List ℕ) where
     )
 
     -- a refused call leaves the lent bytes as they were
-    pub text_keeps : (f : Fault) → text_refusal r ≡ number_of f → after ≡ before
+    pub text_keeps : (f : Fault) → refusal r ≡ number_of f → after ≡ before
     text_keeps = keeps r is
 
 -- What the table of a text means. Its first n entries are a table that is accepted, and the last of them means the tree's formula.
 pub record Means (t : Tree) (n : ℕ) (before after : List ℕ) : Type 0 where
   pub count : n ≡ size (formula t)
-  pub accepted : table_verdict (take (4 * n) after) ≡ Accepted
+  pub accepted : table_verdict (take (4 * n) after) ≡ accepted
   pub last : (i : ℕ) → n ≡ i + 1 → formula_at (entry_in (take (4 * n) after)) i ≡ formula t
   pub behind : drop (4 * n) after ≡ drop (4 * n) before
 
 -- an accepted tree is within the limits, and there are bytes enough
-accepts : (over few : Bool) → and_then (refuse_if over TextLimit) (refuse_if few Space) ≡ Accepted → (over ≡ false) × (few ≡ false)
+accepts : (over few : Bool) → and_then (refuse_if over TextLimit) (refuse_if few Space) ≡ accepted → (over ≡ false) × (few ≡ false)
 accepts true few ok = let z : ◌≡◌ {A = ℕ} 0 1 = cc in absurd (omega arith)
 accepts false true ok = let z : ◌≡◌ {A = ℕ} 0 1 = cc in absurd (omega arith)
 accepts false false ok = (refl, refl)
@@ -125,7 +124,7 @@ unfolding word_in
 front bytes n j inside =
     ap entry_of (same_bytes bytes (take (4 * n) bytes) (4 * j) 4 (λ k low high. sym (get_or-take (4 * n) bytes k 0 (omega arith))))
 
-module _ (text before after : List ℕ) (n : ℕ) (is : ReadingIs text before after (Reading.Entries n)) where
+module _ (text before after : List ℕ) (n : ℕ) (is : ReadingIs text before after (Ok n)) where
   first_bytes : length (take (4 * n) after) ≡ 4 * n
   first_bytes =
       let enough = ltb-false (length before) (4 * size (formula is.0)) (accepts (over_limit text is.0) (short before is.0) is.2).1 in

@@ -16,14 +16,10 @@ ghost use Rattle.history.specs.Shown.{Shows};
 ghost use Rattle.history.specs.Answered.{Answers};
 ghost use Rattle.draft_bytes.specs.Table.{TableIs};
 
-use decision::Decision;
-use decision::call::Needed;
 use draft::Stepped;
-use draft_bytes::Tabled;
-use faults::Verdict;
+use faults::{Fault, Verdict};
 use history::{Draft, Step};
-use mark::Marking;
-use typed::Reading;
+use mark::Mark;
 
 // Whether a table is accepted; if not, its first fault in document 01's order, a number from 1 to 4.
 pub fn check_table(table: &[u8]) -> Verdict
@@ -35,7 +31,7 @@ pub fn check_table(table: &[u8]) -> Verdict
 // Reads a typed answer (document 02, P1) and writes its table: operands before their sign, left before right, so that the last entry
 // means what the text says. Answers how many entries it wrote; the bytes behind them stay as they were. Refuses with 11 for a text
 // outside the grammar, 12 for one over a limit, or 10 for too few bytes, and then leaves all bytes as they were.
-pub fn read_text(text: &[u8], table: &mut [u8]) -> Reading
+pub fn read_text(text: &[u8], table: &mut [u8]) -> Result<usize, Fault>
     ensures { ReadingIs text.now table.old table.new result }
 {
     typed::read(text, table)
@@ -43,7 +39,7 @@ pub fn read_text(text: &[u8], table: &mut [u8]) -> Reading
 
 // The words that a mark of two entries has to be lent, document 01's W; for a decision one entry is given twice. Refuses with a
 // number from 1 to 4, or 9 for an entry that is not there.
-pub fn work_words(table: &[u8], model: usize, answer: usize) -> Needed
+pub fn work_words(table: &[u8], model: usize, answer: usize) -> Result<usize, Fault>
     ensures { NeededIs table.now model answer result }
 {
     decision::call::words_for(table, model, answer)
@@ -62,7 +58,7 @@ pub fn board(table: &[u8], structure: &[u8], words: &mut [u64]) -> Verdict
 // Whether entry e of a table is possible: some world of some finite structure makes it true, whatever its size. Works in the
 // first W words (document 01) and leaves 0 in them; the words behind stay as they were. Refuses with a number from 1 to 4,
 // 9 for an entry that is not there, or 10 for too few words, and then leaves all words as they were.
-pub fn decide(table: &[u8], e: usize, words: &mut [u64]) -> Decision
+pub fn decide(table: &[u8], e: usize, words: &mut [u64]) -> Result<bool, Fault>
     ensures { DecisionIs table.now e words.old words.new result }
 {
     decision::decide(table, e, words)
@@ -71,7 +67,7 @@ pub fn decide(table: &[u8], e: usize, words: &mut [u64]) -> Decision
 // The mark of the answer's entry beside the model's, over all worlds of all finite structures: equal, narrower, wider or
 // crossing. One entry may be both. Works in the first W words, W by the greater depth of the two, and leaves 0 in them; the
 // words behind stay as they were. Refuses as `decide` does, 9 for either entry, and then leaves all words as they were.
-pub fn mark(table: &[u8], model: usize, answer: usize, words: &mut [u64]) -> Marking
+pub fn mark(table: &[u8], model: usize, answer: usize, words: &mut [u64]) -> Result<Mark, Fault>
     ensures { MarkingIs table.now model answer words.old words.new result }
 {
     mark::mark_pair(table, model, answer, words)
@@ -110,7 +106,7 @@ pub fn draft_back(draft: Draft, name: u8) -> Stepped
 
 // Writes the entries of a draft as the bytes of a table for the other calls, and answers how many there are; the bytes behind stay as
 // they were. Refuses with 16 for a draft that no sequence gives, or 10 for too few bytes, and then leaves all bytes as they were.
-pub fn draft_table(draft: Draft, table: &mut [u8]) -> Tabled
+pub fn draft_table(draft: Draft, table: &mut [u8]) -> Result<usize, Fault>
     ensures { TableIs draft table.old table.new result }
 {
     draft_bytes::table_of(draft, table)

@@ -5,7 +5,7 @@ ghost use Rattle.std.specs.Prelude.{◌≡◌, true, ◌+◌, ◌<◌, ◌≤◌
 ghost use Rattle.sets.specs.Set.{member, code, Within};
 ghost use Rattle.listed.specs.Codes.{codes_from, Inside, Appended};
 
-use packed::word_at;
+use packed::item_or;
 use sets::Set;
 
 // Whether a set is seen to have all members of another.
@@ -20,12 +20,10 @@ pub fn covered(words: &[u64], at: usize, k: usize, set: Set) -> bool
     requires { at + k ≤ length words.now }
     ensures { result ≡ true → Inside (member set) (codes_from words.now at k) }
 {
-    let mut j = 0;
-    while j < k {
-        if inside(set, Set::of_code(word_at(words, at + j))) {
+    for j in 0..k {
+        if inside(set, Set::of_code(item_or(words, at + j, 0))) {
             return true;
         }
-        j += 1;
     }
     false
 }

@@ -1,20 +1,13 @@
 -- The question that the mark asks about two entries, and what the answer says of their formulas.
 use mathlib.Core.Bool.{Bool, true, false}
-use mathlib.Core.List.{List}
 use Prim.Native.Nat.{ℕ}
 use Rattle.sets.specs.Set.{nothing, added}
 use Rattle.table.specs.declared.entry.Entry.{Entry}
 use Rattle.table.specs.Formulas.{formula_at}
 use Rattle.semantics.specs.Answer.{Answers}
 use Rattle.tableau.specs.Wants.{Sat}
-use Rattle.decision.specs.Ask.{AllThere}
 use Rattle.decision.proofs.Question.{only_one, has_one}
 use Rattle.mark.specs.Mark.{Beyond}
-use Rattle.mark.specs.Pair.{PairPrepared}
-
-pub pair_there_is : {entry : ℕ → Entry} {n a b depth level : ℕ} {words : List ℕ} → PairPrepared entry n a b depth level words
-    → AllThere entry n depth (added nothing a) (added nothing b)
-pair_there_is {entry} {n} {a} {b} asked = elim [ true ↦ λ i h. rw (only_one a i h) asked.first | false ↦ λ i h. rw (only_one b i h) asked.second ]
 
 module _ (entry : ℕ → Entry) (a b : ℕ) where
   pub pair_answer : (r : Bool) → Answers r (Sat entry (added nothing a) (added nothing b)) → Answers r (Beyond (formula_at entry a) (formula_at entry b))

@@ -1,8 +1,8 @@
 -- The mark of an answer beside a model: how the worlds that make the one true stand to those of the other. The mission's demand 3, document 01,
 -- "Possible, and the mark", and document 02, P2: an answer that is not possible has a mark of its own.
-use Rattle.std.specs.Prelude.{◌≡◌, true, false, List, ℕ, ◌<◌, length}
-use Rattle.faults.specs.declared.Verdict.TheVariants.{Accepted, Refused}
-use Rattle.faults.specs.Verdict.{number_of as fault_number}
+use Rattle.std.specs.Prelude.{Result, Ok, Err, ◌≡◌, true, false, List, ℕ, ◌<◌, length}
+use Rattle.faults.specs.declared.Fault.{Fault}
+use Rattle.faults.specs.Verdict.{accepted, answer_number}
 use Rattle.semantics.specs.Formula.{Formula}
 use Rattle.semantics.specs.Structure.{Structure}
 use Rattle.semantics.specs.Truth.{truth, Satisfiable}
@@ -10,7 +10,6 @@ use Rattle.table.specs.Entry.{entry_in}
 use Rattle.table.specs.Formulas.{formula_at}
 use Rattle.decision.specs.Call.{pair_work, pair_verdict, Cleared}
 use Rattle.mark.specs.declared.Mark.{Mark}
-use Rattle.mark.specs.declared.Marking.{Marking}
 
 -- the two are true at the same worlds of all finite structures
 abbrev pub Same : Formula → Formula → Type 0
@@ -45,19 +44,13 @@ number_of Mark.Crossing = 3
 number_of Mark.Impossible = 4
 
 -- the number that a call returns: of the mark, or of the fault
-abbrev pub marking_number : Marking → ℕ
-marking_number (Marking.Marked mark) = number_of mark
-marking_number (Marking.Refused f) = fault_number f
-
--- the number that a call is refused with, 0 where it answers
-abbrev pub refusal : Marking → ℕ
-refusal (Marking.Marked mark) = 0
-refusal (Marking.Refused f) = fault_number f
+abbrev pub marking_number : Result Mark Fault → ℕ
+marking_number = answer_number number_of
 
 -- what a mark call answers for a model's and an answer's entry, and what the lent words are then
-abbrev pub MarkingIs : List ℕ → (model answer : ℕ) → (before after : List ℕ) → Marking → Type 0
-MarkingIs bytes model answer before after (Marking.Marked mark) =
-    (pair_verdict bytes model answer (length before) ≡ Accepted)
+abbrev pub MarkingIs : List ℕ → (model answer : ℕ) → (before after : List ℕ) → Result Mark Fault → Type 0
+MarkingIs bytes model answer before after (Ok mark) =
+    (pair_verdict bytes model answer (length before) ≡ accepted)
     × MarkIs (formula_at (entry_in bytes) model) (formula_at (entry_in bytes) answer) mark
     × Cleared (pair_work bytes model answer) before after
-MarkingIs bytes model answer before after (Marking.Refused f) = (pair_verdict bytes model answer (length before) ≡ Refused f) × (after ≡ before)
+MarkingIs bytes model answer before after (Err f) = (pair_verdict bytes model answer (length before) ≡ Err f) × (after ≡ before)

@@ -1,7 +1,6 @@
 // A case: calls of `hurnavis::mark`, the answer and every lent word compared with what documents 01 and 02 give.
-use mark::Marking;
+use faults::Numbered;
 use vectors::description::Description;
-use vectors::entries::Room;
 use vectors::tally::Tally;
 use vectors::words::{ONES, compare};
 
@@ -18,13 +17,6 @@ pub const IMPOSSIBLE: u64 = 4;
 
 const REFUSED: u64 = 100;
 
-fn number(marking: Marking) -> u64 {
-    match marking {
-        Marking::Marked(mark) => mark.number() as u64,
-        Marking::Refused(fault) => REFUSED + fault.number() as u64,
-    }
-}
-
 // Two entries of a table: the model's and the answer's.
 #[derive(Clone, Copy)]
 pub struct Entries {
@@ -33,28 +25,18 @@ pub struct Entries {
 }
 
 pub fn pair(model: usize, answer: usize) -> Entries {
-    Entries {
-        model: model,
-        answer: answer,
-    }
+    Entries { model, answer }
 }
 
-// The answer on the first bytes of a table. Here and below, more than there is gives 255, which no case expects.
-fn on_table(table: Room, bytes: usize, of: Entries, words: &mut [u64]) -> u64 {
-    if 260 < bytes {
-        return 255;
-    }
-    let marking = hurnavis::mark(&table[..bytes], of.model, of.answer, words);
-    number(marking)
-}
-
-// The same with the first `lent` words lent.
+// The answer with the first `lent` words lent. More bytes or words than there are give 255, which no case expects.
 fn call(d: Description, of: Entries, words: &mut [u64], lent: usize) -> u64 {
-    if words.len() < lent {
+    let (Some(table), Some(words)) = (d.table.get(..d.bytes), words.get_mut(..lent)) else {
         return 255;
+    };
+    match hurnavis::mark(table, of.model, of.answer, words) {
+        Ok(mark) => u64::from(mark.number()),
+        Err(fault) => REFUSED + u64::from(fault.number()),
     }
-    let table = d.table;
-    on_table(table, d.bytes, of, &mut words[..lent])
 }
 
 // A case that lends so many words, of which so many are 0 afterwards.
@@ -76,14 +58,14 @@ fn lends(
 
 // A case that is refused and leaves all words as before.
 pub fn refuses(tally: Tally, d: Description, of: Entries, lent: usize, expected: u8) -> Tally {
-    lends(tally, d, of, lent, 0, REFUSED + expected as u64)
+    lends(tally, d, of, lent, 0, REFUSED + u64::from(expected))
 }
 
 // Entries of this greater depth are marked in W words, and refused with one word less.
 fn marks_once(before: Tally, d: Description, of: Entries, depth: usize, expected: u64) -> Tally {
     let needed = d.work(depth);
-    let less = std::num::wrapping_sub_usize(needed, 1);
-    let more = std::num::wrapping_add_usize(needed, 2);
+    let less = needed.wrapping_sub(1);
+    let more = needed.wrapping_add(2);
     let mut tally = refuses(before, d, of, less, 10);
     tally = lends(tally, d, of, needed, needed, expected);
     lends(tally, d, of, more, needed, expected)
@@ -91,13 +73,11 @@ fn marks_once(before: Tally, d: Description, of: Entries, depth: usize, expected
 
 // The mark of a possible answer with answer and model exchanged, where the model is possible too.
 fn exchanged(mark: u64) -> u64 {
-    if mark == NARROWER {
-        return WIDER;
+    match mark {
+        NARROWER => WIDER,
+        WIDER => NARROWER,
+        other => other,
     }
-    if mark == WIDER {
-        return NARROWER;
-    }
-    mark
 }
 
 // A case both ways round, with the mark of each.

@@ -32,7 +32,7 @@ pub fn connectives(before: Tally) -> Tally {
 
 // At least n is not at most n-1, and at most n is not at least n+1.
 fn turned(tally: Tally, grade: u32) -> Tally {
-    let less = std::num::wrapping_sub_u32(grade, 1);
+    let less = grade.wrapping_sub(1);
     let d = Description::of(&[
         fact(1),
         at_least(grade, 7, 0),
@@ -88,11 +88,11 @@ pub fn distributed(before: Tally) -> Tally {
 
 // At least so many of p, at most so many of q, at least so many of q or of r by another relation.
 fn description(d: Description, at: u32, grade: u32, more: u32) -> Description {
-    let second = std::num::wrapping_add_u32(at, 1);
-    let third = std::num::wrapping_add_u32(at, 2);
-    let fourth = std::num::wrapping_add_u32(at, 3);
-    let fifth = std::num::wrapping_add_u32(at, 4);
-    let sixth = std::num::wrapping_add_u32(at, 5);
+    let second = at.wrapping_add(1);
+    let third = at.wrapping_add(2);
+    let fourth = at.wrapping_add(3);
+    let fifth = at.wrapping_add(4);
+    let sixth = at.wrapping_add(5);
     d.entry(fact(1))
         .entry(fact(2))
         .entry(at_least(grade, 7, at))

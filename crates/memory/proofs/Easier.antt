@@ -66,20 +66,6 @@ pub lacks_false : {entry : ℕ → Entry} {more : ℕ → Bool} (ts fs ts' fs' :
 lacks_false ts fs ts' fs' is none no_World sat = no_World (fewer_wants (nothing_lacking ts' ts none) (rw is (lacking_added fs' fs)) sat)
 
 module _ {known r : Ruled} {missing : ℕ → Bool} where
-  -- nothing is missing: no world is as wanted
-  pub ruled_out : (truth : Bool) → missing ≡ nothing → r.yes ≡ known.yes → r.no ≡ known.no → MissingIs known missing truth r
-  ruled_out truth none same-yes same-no = record {
-    ruled = λ entry ts fs so no_World. record {
-      out = λ e sat. no_World (all_there entry ts fs truth sat);
-      never_true = rw same-yes so.never_true;
-      never_false = rw same-no so.never_false;
-    };
-  }
-    where
-      all_there : (entry : ℕ → Entry) (ts fs : ℕ → Bool) (truth : Bool) → Sat entry ts fs → SatWith entry ts fs missing truth
-      all_there entry ts fs true sat = fewer_wants (nothing_added ts none) (λ i h. h) sat
-      all_there entry ts fs false sat = fewer_wants (λ i h. h) (nothing_added fs none) sat
-
   -- only i is missing: no world makes it so
   module _ (i : ℕ) (only : removed missing i ≡ nothing) (same_out : r.out ≡ known.out) where
     pub ruled_true : member r.yes ≡ added (member known.yes) i → r.no ≡ known.no → MissingIs known missing true r

@@ -1,12 +1,13 @@
 -- Slots stay what they are where their words move: the words before them are lent, or those from a level on are lent on and come back.
-use Rattle.std.proofs.Common.{◌≡◌, ℕ, suc, ◌+◌, ◌-◌, ◌*◌, ◌<◌, ◌≤◌, Bool, true, false, List, ◌++◌, length, get_or, take, drop, set, sym, ap, ◌∙◌, ⊎_elim, append-nil, le_of_eq, le_of_suc-le-suc, suc-mul, eq-or-lt_of_le, arith, length-drop, length-take-le, get_or-drop, take_all, get_or-set_other, get_or-set_same, get_or-append-add}
+use Rattle.std.proofs.Common.{◌≡◌, ℕ, suc, min, ◌+◌, ◌-◌, ◌*◌, ◌<◌, ◌≤◌, Bool, true, false, List, ◌++◌, length, get_or, take, drop, sym, ap, ◌∙◌, append-nil, le_of_eq, suc-mul, arith, length-drop, length-take-le, get_or-drop, take_all, get_or-append-add}
 use native.Mathlib.Decide.{dec_lt}
 use mathlib.Core.Logic.{by_cases}
-use lib.ListN.{get_or-eq_default}
+use lib.ListN.{get_or-eq_default, get_or-append, length-replicate, replicate}
+use Rattle.std.proofs.lemmas.List.{get_or-append_right, get_or-replicate}
 use lib.Seq.{drop-length}
-use borrow.Rule.Slice.PartMut.{put_mid, Post-is}
+use borrow.Rule.Slice.PartMut.{put_mid, Post-is, same_len_mid, mid_len}
 use Rattle.table.specs.declared.entry.Entry.{Entry}
-use Rattle.memory.specs.Memory.{answer_code, Memory}
+use Rattle.memory.specs.Memory.{answer_code, Memory, Forgotten}
 
 module _ (entry : ℕ → Entry) where
   -- the words of the slots are the same, at another place
@@ -62,16 +63,34 @@ module _ (entry : ℕ → Entry) where
       no_code true e = omega arith
       no_code false e = omega arith
 
--- words that become 0 one by one, from a place on
-abbrev pub Zeros : ℕ → ℕ → List ℕ → Type 0
-Zeros from i words = (j : ℕ) → from ≤ j → j < i → get_or words j 0 ≡ 0
+-- a part of the words was filled with 0, as much as the slots take
+module _ (words filled : List ℕ) (from begin end : ℕ) (first : begin ≡ min from (length words)) (last : end ≡ min (length words) (begin + 49152))
+    (fill : filled ≡ replicate (length (take (end - begin) (drop begin words))) 0) where
+  abbrev cleared : List ℕ
+  cleared = put_mid begin (end - begin) words filled
 
-pub zeros_next : (words : List ℕ) (from i : ℕ) → i < length words → Zeros from i words → Zeros from (suc i) (set words i 0)
-zeros_next words from i room zeros j a l =
-    ⊎_elim (λ (e : j ≡ i). rw e (get_or-set_same words i 0 0 room)) (λ (less : j < i). get_or-set_other words i j 0 0 (omega arith) ∙ zeros j a less)
-    (eq-or-lt_of_le (le_of_suc-le-suc l))
+  part : length (take (end - begin) (drop begin words)) ≡ end - begin
+  part = mid_len begin end words (omega arith)
 
--- past the end all is 0
-pub zeros_past : (words : List ℕ) (from i : ℕ) → length words ≤ i → Zeros from i words → (j : ℕ) → from ≤ j → get_or words j 0 ≡ 0
-zeros_past words from i past zeros j a =
-    by_cases (dec_lt j i) (λ (l : j < i). zeros j a l) (λ (g : ¬ (j < i)). get_or-eq_default words 0 (omega arith))
+  zero : filled ≡ replicate (end - begin) 0
+  zero = rw part at fill
+
+  as_many : length filled ≡ end - begin
+  as_many = ap length zero ∙ length-replicate (end - begin) 0
+
+  same_length : length cleared ≡ length words
+  same_length = same_len_mid begin (end - begin) words filled (as_many ∙ sym part)
+
+  zero_within : (i : ℕ) → begin ≤ i → i < end → get_or cleared i 0 ≡ 0
+  zero_within i a l =
+      let less : i - begin < end - begin = omega arith in
+      get_or-append_right (take begin words) (filled ++ drop (end - begin) (drop begin words)) begin i 0 (length-take-le begin words (omega arith)) a
+      ∙ get_or-append filled (drop (end - begin) (drop begin words)) 0 (i - begin) (omega (arith, as_many))
+      ∙ ap (λ (l : List ℕ). get_or l (i - begin) 0) zero ∙ get_or-replicate (end - begin) (i - begin) 0 0 less
+
+  pub forgotten : Forgotten from words cleared
+  forgotten = record {
+    same_length = same_length;
+    memory = λ entry. memory_none entry cleared from
+        (λ i a l. by_cases (dec_lt i end) (λ (less : i < end). zero_within i (omega arith) less) (λ (past : ¬ (i < end)). get_or-eq_default cleared 0 (omega (arith, same_length))));
+  }

@@ -8,8 +8,8 @@ use Rattle.sets.specs.Set.{member, code}
 use Rattle.table.specs.declared.entry.Entry.{Entry}
 use Rattle.semantics.specs.Answer.{Answers}
 use Rattle.tableau.specs.Wants.{Sat}
-use Rattle.memory.specs.declared.Remembered.{Remembered}
 use Rattle.memory.specs.Memory.{answer_code, Recalled, Memory, RecallIs, StandsFor, Written, Stored, Shifted}
+use Rattle.std.specs.Prelude.{Option, Some, None}
 
 code_injective : (a b : Bool) → answer_code a ≡ answer_code b → a ≡ b
 code_injective true true e = refl
@@ -25,11 +25,11 @@ unfolding member
 slot_says memory k few ts fs answer first second third = (rw (first, second) at ((memory.slot k few).says answer)) third
 
 -- so does the answer whose code its last word is
-pub recalled : {entry : ℕ → Entry} {words : List ℕ} {from : ℕ} → Memory entry words from → (k : ℕ) → k < 16384 → (yes no : Set) (last : ℕ) (r : Remembered)
+pub recalled : {entry : ℕ → Entry} {words : List ℕ} {from : ℕ} → Memory entry words from → (k : ℕ) → k < 16384 → (yes no : Set) (last : ℕ) (r : Option Bool)
     → get_or words (from + 3 * k) 0 ≡ code yes → get_or words (from + 3 * k + 1) 0 ≡ code no → get_or words (from + 3 * k + 2) 0 ≡ last → StandsFor last r
     → RecallIs entry (member yes) (member no) r
-recalled memory k few ts fs last (Remembered.Answer answer) first second third stands = slot_says memory k few ts fs answer first second (third ∙ stands)
-recalled memory k few ts fs last Remembered.Nothing first second third stands = tt
+recalled memory k few ts fs last (Some answer) first second third stands = slot_says memory k few ts fs answer first second (third ∙ stands)
+recalled memory k few ts fs last None first second third stands = tt
 
 -- three words are written into a slot
 module _ (words : List ℕ) (from k y n m : ℕ) (room : from + 3 * k + 3 ≤ length words) where

@@ -1,12 +1,10 @@
 -- Questions that have been answered, in lent words. A slot is three words: the codes of the set wanted true, of the set wanted false, and of the answer.
 -- An inner contract. What a slot says is so at any depth, whatever was worked out to get it, so slots may be overwritten freely.
-use Rattle.std.specs.Prelude.{◌≡◌, ℕ, ◌+◌, ◌*◌, ◌<◌, ◌≤◌, Bool, true, false, List, length, take, slice_index}
+use Rattle.std.specs.Prelude.{Option, Some, None, ◌≡◌, ℕ, ◌+◌, ◌*◌, ◌<◌, ◌≤◌, Bool, true, false, List, length, take, slice_index}
 use Rattle.sets.specs.Word.{bit_at}
 use Rattle.table.specs.declared.entry.Entry.{Entry}
 use Rattle.semantics.specs.Answer.{Answers}
 use Rattle.tableau.specs.Wants.{Sat}
-use Rattle.memory.specs.declared.Place.{Place}
-use Rattle.memory.specs.declared.Remembered.{Remembered}
 
 -- the code of an answer; 0 is that of none
 abbrev pub answer_code : Bool → ℕ
@@ -23,14 +21,14 @@ module _ (entry : ℕ → Entry) where
     pub slot : (k : ℕ) → k < 16384 → Recalled (slice_index words (from + 3 * k)) (slice_index words (from + 3 * k + 1)) (slice_index words (from + 3 * k + 2))
 
   -- what is recalled of a question
-  abbrev pub RecallIs : (yes no : ℕ → Bool) → Remembered → Type 0
-  RecallIs ts fs (Remembered.Answer answer) = Answers answer (Sat entry ts fs)
-  RecallIs ts fs Remembered.Nothing = Unit {0}
+  abbrev pub RecallIs : (yes no : ℕ → Bool) → Option Bool → Type 0
+  RecallIs ts fs (Some answer) = Answers answer (Sat entry ts fs)
+  RecallIs ts fs None = Unit {0}
 
 -- a slot's last word is the code of an answer
-abbrev pub StandsFor : ℕ → Remembered → Type 0
-StandsFor last (Remembered.Answer answer) = last ≡ answer_code answer
-StandsFor last Remembered.Nothing = Unit {0}
+abbrev pub StandsFor : ℕ → Option Bool → Type 0
+StandsFor last (Some answer) = last ≡ answer_code answer
+StandsFor last None = Unit {0}
 
 -- there is room among the words for a slot, which is one of the first 16,384
 abbrev pub Fits : (from words k : ℕ) → Type 0
@@ -41,9 +39,9 @@ abbrev pub SlotsIs : (from words n : ℕ) → Type 0
 SlotsIs from words n = (k : ℕ) → k < n → Fits from words k
 
 -- the first of two slots, one behind the other, if there is room for any
-abbrev pub PairIs : (from words : ℕ) → Place → Type 0
-PairIs from words (Place.At k) = Fits from words (k + 1)
-PairIs from words Place.Nowhere = Unit {0}
+abbrev pub PairIs : (from words : ℕ) → Option ℕ → Type 0
+PairIs from words (Some k) = Fits from words (k + 1)
+PairIs from words None = Unit {0}
 
 -- three words were written: the words before the slots are as they were, and the slots still say what is so if the new one does
 pub record Written (from yes no last : ℕ) (before after : List ℕ) : Type 0 where

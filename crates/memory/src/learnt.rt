@@ -9,8 +9,8 @@ ghost use Rattle.memory.specs.Memory.{Memory, Fits, SlotsIs, Stored};
 ghost use Rattle.memory.specs.Learnt.{RuledIs, MissingIs};
 
 use crate::slots::{is_free, learnt_in, slots_in, spread, store};
-use packed::word_at;
-use sets::{Highest, Set};
+use packed::item_or;
+use sets::Set;
 
 // What is known of a question: that no world is as it wants, or at least none that also makes such an entry true, or false.
 #[derive(Clone, Copy)]
@@ -25,14 +25,9 @@ fn free_slot(words: &[u64], from: usize, first: usize, end: usize, otherwise: us
     requires { SlotsIs from (length words.now) end × (otherwise < end) }
     ensures { result < end }
 {
-    let mut slot = first;
-    while slot < end {
-        if is_free(words, from, slot) {
-            return slot;
-        }
-        slot += 1;
-    }
-    otherwise
+    (first..end)
+        .find(|&slot| is_free(words, from, slot))
+        .unwrap_or(otherwise)
 }
 
 // Stores an answer among what is learnt, over another one where no slot is free.
@@ -53,25 +48,21 @@ pub fn learn(words: &mut [u64], from: usize, yes: Set, no: Set, answer: bool)
 fn with_missing(known: Ruled, missing: Set, truth: bool) -> Ruled
     ensures { MissingIs known (member missing) truth result }
 {
-    let yes = known.yes;
-    let no = known.no;
-    let Highest::At(i) = missing.highest() else {
-        return Ruled { out: true, yes, no };
+    let Some(i) = missing.highest() else {
+        return Ruled { out: true, ..known };
     };
     if !missing.without(i).is_empty() {
         return known;
     }
     if truth {
         Ruled {
-            out: known.out,
-            yes: yes.with(i),
-            no,
+            yes: known.yes.with(i),
+            ..known
         }
     } else {
         Ruled {
-            out: known.out,
-            yes,
-            no: no.with(i),
+            no: known.no.with(i),
+            ..known
         }
     }
 }
@@ -83,11 +74,11 @@ fn with_slot(words: &[u64], from: usize, slot: usize, yes: Set, no: Set, known: 
         → RuledIs entry (member yes) (member no) result }
 {
     let at = from + 3 * slot;
-    if word_at(words, at + 2) != 2 {
+    if item_or(words, at + 2, 0) != 2 {
         return known;
     }
-    let more_yes = Set::of_code(word_at(words, at)).minus(yes);
-    let more_no = Set::of_code(word_at(words, at + 1)).minus(no);
+    let more_yes = Set::of_code(item_or(words, at, 0)).minus(yes);
+    let more_no = Set::of_code(item_or(words, at + 1, 0)).minus(no);
     if more_no.is_empty() {
         return with_missing(known, more_yes, true);
     }
@@ -107,13 +98,11 @@ pub fn rulings(words: &[u64], from: usize, yes: Set, no: Set) -> Ruled
         yes: Set::empty(),
         no: Set::empty(),
     };
-    let mut slot: usize = 0;
-    while slot < learnt {
+    for slot in 0..learnt {
         if is_free(words, from, slot) {
             return known;
         }
         known = with_slot(words, from, slot, yes, no, known);
-        slot += 1;
     }
     known
 }
@@ -124,13 +113,9 @@ fn serves(words: &[u64], from: usize, slot: usize, yes: Set, no: Set) -> bool
     ensures { (entry : ℕ → Entry) → Memory entry words.now from → result ≡ true → Sat entry (member yes) (member no) }
 {
     let at = from + 3 * slot;
-    if word_at(words, at + 2) != 1 {
-        return false;
-    }
-    if !yes.minus(Set::of_code(word_at(words, at))).is_empty() {
-        return false;
-    }
-    no.minus(Set::of_code(word_at(words, at + 1))).is_empty()
+    item_or(words, at + 2, 0) == 1
+        && yes.minus(Set::of_code(item_or(words, at, 0))).is_empty()
+        && no.minus(Set::of_code(item_or(words, at + 1, 0))).is_empty()
 }
 
 // Whether a learnt question with a world shows that there is one for this question.
@@ -138,16 +123,13 @@ pub fn witnessed(words: &[u64], from: usize, yes: Set, no: Set) -> bool
     ensures { (entry : ℕ → Entry) → Memory entry words.now from → result ≡ true → Sat entry (member yes) (member no) }
 {
     let learnt = learnt_in(slots_in(words.len(), from));
-    let end = 2 * learnt;
-    let mut slot = learnt;
-    while slot < end {
+    for slot in learnt..2 * learnt {
         if is_free(words, from, slot) {
             return false;
         }
         if serves(words, from, slot, yes, no) {
             return true;
         }
-        slot += 1;
     }
     false
 }

@@ -12,97 +12,67 @@ pub mod learnt;
 pub mod slots;
 
 use learnt::witnessed;
-use packed::word_at;
+use packed::item_or;
 use sets::Set;
-use slots::{learnt_in, put, slots_in, spread, store};
-
-// A slot, if there is room for any.
-#[derive(Clone, Copy)]
-pub enum Place {
-    At(usize),
-    Nowhere,
-}
-
-// The answer to a question, if it is remembered.
-#[derive(Clone, Copy)]
-pub enum Remembered {
-    Answer(bool),
-    Nothing,
-}
+use slots::{SLOTS, learnt_in, put, slots_in, spread, store};
 
 // The first of the two slots of a question, among so many words. Those that are dear have slots of their own, so that many
 // cheap ones do not push them out.
-fn find(words: usize, from: usize, yes: Set, no: Set, dear: bool) -> Place
+fn find(words: usize, from: usize, yes: Set, no: Set, dear: bool) -> Option<usize>
     ensures { PairIs from words result }
 {
     let slots = slots_in(words, from);
     let first = 2 * learnt_in(slots);
     let pairs = (slots - first) / 4;
     if pairs == 0 {
-        return Place::Nowhere;
+        return None;
     }
     let pair = spread(yes, no, pairs);
     if dear {
-        Place::At(first + 2 * pair)
+        Some(first + 2 * pair)
     } else {
-        Place::At(first + 2 * (pairs + pair))
+        Some(first + 2 * (pairs + pair))
     }
 }
 
 // The answer whose code a slot's last word is.
-fn answer_of(last: u64) -> Remembered
+fn answer_of(last: u64) -> Option<bool>
     ensures { StandsFor last result }
 {
     match last {
-        1 => Remembered::Answer(true),
-        2 => Remembered::Answer(false),
-        _ => Remembered::Nothing,
+        1 => Some(true),
+        2 => Some(false),
+        _ => None,
     }
 }
 
 // What a slot says of a question, if it is that of the slot.
-fn recall_at(words: &[u64], from: usize, slot: usize, yes: Set, no: Set) -> Remembered
+fn recall_at(words: &[u64], from: usize, slot: usize, yes: Set, no: Set) -> Option<bool>
     requires { Fits from (length words.now) slot }
     ensures { (entry : ℕ → Entry) → Memory entry words.now from → RecallIs entry (member yes) (member no) result }
 {
     let at = from + 3 * slot;
-    if word_at(words, at) != yes.code() {
-        return Remembered::Nothing;
+    if item_or(words, at, 0) != yes.code() || item_or(words, at + 1, 0) != no.code() {
+        return None;
     }
-    if word_at(words, at + 1) != no.code() {
-        return Remembered::Nothing;
-    }
-    answer_of(word_at(words, at + 2))
+    answer_of(item_or(words, at + 2, 0))
 }
 
 // The answer in one of the two slots of a question.
-fn stored_answer(words: &[u64], from: usize, yes: Set, no: Set, dear: bool) -> Remembered
+fn stored_answer(words: &[u64], from: usize, yes: Set, no: Set, dear: bool) -> Option<bool>
     ensures { (entry : ℕ → Entry) → Memory entry words.now from → RecallIs entry (member yes) (member no) result }
 {
-    let Place::At(slot) = find(words.len(), from, yes, no, dear) else {
-        return Remembered::Nothing;
-    };
-    match recall_at(words, from, slot, yes, no) {
-        Remembered::Answer(answer) => Remembered::Answer(answer),
-        Remembered::Nothing => recall_at(words, from, slot + 1, yes, no),
-    }
+    let slot = find(words.len(), from, yes, no, dear)?;
+    recall_at(words, from, slot, yes, no).or_else(|| recall_at(words, from, slot + 1, yes, no))
 }
 
 // Whether some world makes one set of entries true and another false, if that is remembered in the slots from a place on,
 // or shown by what is learnt.
-pub fn recall(words: &[u64], from: usize, yes: Set, no: Set, dear: bool) -> Remembered
+pub fn recall(words: &[u64], from: usize, yes: Set, no: Set, dear: bool) -> Option<bool>
     ensures { (entry : ℕ → Entry) → Memory entry words.now from → RecallIs entry (member yes) (member no) result }
 {
-    match stored_answer(words, from, yes, no, dear) {
-        Remembered::Answer(answer) => Remembered::Answer(answer),
-        Remembered::Nothing => {
-            if witnessed(words, from, yes, no) {
-                Remembered::Answer(true)
-            } else {
-                Remembered::Nothing
-            }
-        }
-    }
+    let stored = stored_answer(words, from, yes, no, dear);
+    stored.or_else(|| witnessed(words, from, yes, no).then_some(true))
 }
 
 // Copies a slot over the one behind it.
@@ -111,9 +81,9 @@ fn shift(words: &mut [u64], from: usize, slot: usize)
     ensures { Shifted from words.old words.new }
 {
     let at = from + 3 * slot;
-    let yes = word_at(words, at);
-    let no = word_at(words, at + 1);
-    let last = word_at(words, at + 2);
+    let yes = item_or(words, at, 0);
+    let no = item_or(words, at + 1, 0);
+    let last = item_or(words, at + 2, 0);
     put(words, from, slot + 1, yes, no, last);
 }
 
@@ -121,7 +91,7 @@ fn shift(words: &mut [u64], from: usize, slot: usize)
 pub fn remember(words: &mut [u64], from: usize, yes: Set, no: Set, dear: bool, answer: bool)
     ensures { Stored from (member yes) (member no) answer words.old words.new }
 {
-    let Place::At(slot) = find(words.len(), from, yes, no, dear) else {
+    let Some(slot) = find(words.len(), from, yes, no, dear) else {
         return;
     };
     shift(words, from, slot);
@@ -132,14 +102,7 @@ pub fn remember(words: &mut [u64], from: usize, yes: Set, no: Set, dear: bool, a
 pub fn forget(words: &mut [u64], from: usize)
     ensures { Forgotten from words.old words.new }
 {
-    let mut i = from;
-    let mut left: usize = 49152;
-    while i < words.len() {
-        if left == 0 {
-            return;
-        }
-        words[i] = 0;
-        i += 1;
-        left -= 1;
-    }
+    let begin = from.min(words.len());
+    let end = words.len().min(begin + SLOTS * 3);
+    words[begin..end].fill(0);
 }

@@ -3,10 +3,11 @@ ghost use Rattle.std.specs.Prelude.{◌≡◌, ◌*◌, ◌<◌, ◌≤◌, leng
 ghost use Rattle.sets.specs.Set.{member};
 ghost use Rattle.memory.specs.Memory.{answer_code, Fits, SlotsIs, Written, Stored};
 
-use numbers::min;
-use packed::word_at;
+use packed::item_or;
 use sets::Set;
-use std::num;
+
+// How many slots there are at the most.
+pub const SLOTS: usize = 16384;
 
 // Which of so many places a question is given. Every bit of both sets has a part in it: sets that differ in high members
 // only would else meet in one place, and each would be answered again and again.
@@ -16,31 +17,28 @@ pub fn spread(yes: Set, no: Set, places: usize) -> usize
 {
     let a = (yes.code() % 4294967291) * 2654435769;
     let b = (no.code() % 4294967279) * 2246822519;
-    (num::wrapping_add_u64(a, b) >> 32) as usize % places
+    (a.wrapping_add(b) >> 32) as usize % places
 }
 
 // How many slots there are among so many words, from a place on.
 pub fn slots_in(words: usize, from: usize) -> usize
     ensures { SlotsIs from words result }
 {
-    if words <= from {
-        return 0;
-    }
-    min(((words - from) / 3) as u64, 16384) as usize
+    (words.saturating_sub(from) / 3).min(SLOTS)
 }
 
 // How many of so many slots are for what is learnt, of either answer.
 pub fn learnt_in(slots: usize) -> usize
     ensures { 8 * result ≤ slots }
 {
-    min((slots / 8) as u64, 256) as usize
+    (slots / 8).min(256)
 }
 
 // Whether nothing was stored in a slot.
 pub fn is_free(words: &[u64], from: usize, slot: usize) -> bool
     requires { Fits from (length words.now) slot }
 {
-    word_at(words, from + 3 * slot + 2) == 0
+    item_or(words, from + 3 * slot + 2, 0) == 0
 }
 
 // The code of an answer.

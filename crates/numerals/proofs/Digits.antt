@@ -3,6 +3,7 @@ use mathlib.Core.Path.{◌≡◌, refl, sym, ap, ◌∙◌}
 use mathlib.Core.List.{List}
 use Prim.Native.Nat.{ℕ, suc, min, ◌+◌, ◌*◌, ◌-◌, ◌<◌, ◌≤◌}
 use mathlib.Core.Logic.{by_cases}
+use Rattle.std.specs.Prelude.{Some, None}
 use native.Mathlib.Decide.{dec_lt}
 use native.Mathlib.Omega.{arith}
 use lib.ListN.{length, get_or, get_or-eq_default}
@@ -19,81 +20,68 @@ inside text i h =
 cut : (n d limit : ℕ) → min (min n (suc limit) * 10 + d) (suc limit) ≡ min (n * 10 + d) (suc limit)
 cut n d limit = omega arith
 
--- digits from `at` up to `end` were read; `digit` is what stands there
-pub record Reading (text : List ℕ) (at limit value end digit : ℕ) : Type 0 where
+-- digits from `at` up to `end` were read
+pub record Reading (text : List ℕ) (at limit value end : ℕ) : Type 0 where
   pub within : at ≤ end
   pub short : at < end → end ≤ length text
   pub digits : (i : ℕ) → at ≤ i → i < end → Digit (get_or text i 0)
   pub spelt : value ≡ min (decimal text at (end - at)) (suc limit)
-  pub here : DigitIs (get_or text end 0) digit
 
 module _ (text : List ℕ) (at limit : ℕ) where
-  pub start : {d : ℕ} → DigitIs (get_or text at 0) d → Reading text at limit 0 at d
+  pub start : Reading text at limit 0 at
   unfolding decimal
-  start is =
+  start =
       record {
         within = omega arith;
         short = λ h. omega arith;
         digits = λ i l h. absurd (omega arith);
         spelt = let e : at - at ≡ 0 = omega arith in rw e (omega arith);
-        here = is;
       }
 
-  module _ {value end digit : ℕ} (r : Reading text at limit value end digit) where
-    -- a digit stands in the text
-    pub another : digit < 10 → end < length text
-    another h = inside text end (omega (arith, r.here.is h))
+  module _ {value end : ℕ} (r : Reading text at limit value end) where
+    -- one digit more
+    module _ {digit : ℕ} (here : DigitIs (get_or text end 0) (Some digit)) where
+      -- a digit stands in the text
+      pub another : end < length text
+      another = inside text end (omega (arith, here.1))
 
-    pub more : (value' digit' : ℕ) → digit < 10 → value' ≡ min (value * 10 + digit) (suc limit) → DigitIs (get_or text (end + 1) 0) digit'
-        → Reading text at limit value' (end + 1) digit'
-    unfolding decimal
-    more value' digit' h is next =
-        let width : end + 1 - at ≡ suc (end - at) = omega arith in
-        let there : at + (end - at) ≡ end = omega arith in
-        let byte : get_or text end 0 ≡ 48 + digit = r.here.is h in
-        let in_it : end < length text = another h in
-        record {
-          within = omega arith;
-          short = λ l. omega arith;
-          digits = λ i l u. by_cases (dec_lt i end) (λ h'. r.digits i l h') (λ n. let e : i ≡ end = omega arith in rw e (omega arith, omega arith));
-          spelt =
-              let digit_is : get_or text (at + (end - at)) 0 - 48 ≡ digit = rw there (omega arith) in
-              rw (width, digit_is) (is ∙ ap (λ (v : ℕ). min (v * 10 + digit) (suc limit)) r.spelt ∙ cut (decimal text at (end - at)) digit limit);
-          here = next;
-        }
+      pub more : (value' : ℕ) → value' ≡ min (value * 10 + digit) (suc limit) → Reading text at limit value' (end + 1)
+      unfolding decimal
+      more value' is =
+          let width : end + 1 - at ≡ suc (end - at) = omega arith in
+          let there : at + (end - at) ≡ end = omega arith in
+          let in_it : end < length text = another in
+          record {
+            within = omega arith;
+            short = λ l. omega arith;
+            digits = λ i l u. by_cases (dec_lt i end) (λ h'. r.digits i l h') (λ n. let e : i ≡ end = omega arith in rw e (omega arith, omega arith));
+            spelt =
+                let digit_is : get_or text (at + (end - at)) 0 - 48 ≡ digit = rw there (omega arith) in
+                rw (width, digit_is) (is ∙ ap (λ (v : ℕ). min (v * 10 + digit) (suc limit)) r.spelt ∙ cut (decimal text at (end - at)) digit limit);
+          }
 
-    module _ (stop : 10 ≤ digit) where
-      -- no digit at all
-      pub no_digit : end ≡ at → (e n : ℕ) → Whole text at e n → ⊥
-      no_digit none e n whole = r.here.none stop (rw none (whole.numeral.digits at (omega arith) whole.numeral.some))
+    -- The first digit is there, and where the loop stopped there is none.
+    module _ {first : ℕ} (is : DigitIs (get_or text at 0) (Some first)) (stop : DigitIs (get_or text end 0) None) where
+      some : at < end
+      some = by_cases (dec_lt at end) (λ l. l) (λ g. let e : end ≡ at = omega arith in absurd (rw e at stop (omega arith, omega arith)))
 
       -- a leading zero
-      pub leading_zero : {first : ℕ} → DigitIs (get_or text at 0) first → first ≡ 0 → (end ≡ at → ⊥) → (end ≡ at + 1 → ⊥)
-          → (e n : ℕ) → Whole text at e n → ⊥
-      leading_zero is zero-first some longer e n whole =
-          let alone : e ≡ at + 1 = whole.numeral.plain (omega (arith, is.is (omega arith))) in
-          whole.last (rw alone (r.digits (at + 1) (omega arith) (omega arith)))
+      pub leading_zero : first ≡ 0 → (end ≡ at + 1 → ⊥) → (e n : ℕ) → Whole text at e n → ⊥
+      leading_zero zero-first longer e n whole =
+          let alone : e ≡ at + 1 = whole.numeral.plain (omega arith) in
+          whole.last (rw alone (r.digits (at + 1) (omega arith) (omega (arith, some))))
 
       -- a number
-      pub whole_number : {first : ℕ} → DigitIs (get_or text at 0) first → (end ≡ at → ⊥) → (first ≡ 0 → end ≡ at + 1)
+      pub whole_number : (first ≡ 0 → end ≡ at + 1)
           → (n : ℕ) × Whole text at end n × (value ≡ min n (suc limit)) × (end ≤ length text)
-      whole_number {first} is some zeros = (
+      whole_number zeros = (
         decimal text at (end - at),
         record {
-          numeral =
-              record {
-                some = omega arith;
-                digits = r.digits;
-                plain =
-                    λ z.
-                    by_cases (dec_lt first 10) (λ l. zeros (omega (arith, is.is l)))
-                    (λ g. absurd (is.none (omega arith) (omega arith, omega arith)));
-                value = refl;
-              };
-          last = r.here.none stop;
+          numeral = record { some = some; digits = r.digits; plain = λ z. zeros (omega arith); value = refl };
+          last = stop;
         },
         r.spelt,
-        r.short (omega arith),
+        r.short some,
       )
 
 -- two whole numerals at one place are one

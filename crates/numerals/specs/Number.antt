@@ -1,5 +1,5 @@
 -- What reading a number finds. An inner contract.
-use Rattle.std.specs.Prelude.{◌≡◌, List, ℕ, suc, min, ◌+◌, ◌<◌, ◌≤◌, length, get_or}
+use Rattle.std.specs.Prelude.{Option, Some, None, ◌≡◌, List, ℕ, suc, min, ◌+◌, ◌<◌, ◌≤◌, length, get_or}
 use Rattle.numerals.specs.declared.Number.{Number}
 use Rattle.numerals.specs.Numeral.{Digit, Numeral}
 
@@ -9,11 +9,12 @@ pub record Whole (text : List ℕ) (at end n : ℕ) : Type 0 where
   pub last : Digit (get_or text end 0) → ⊥
 
 -- a number is read with the place behind it, and one over the limit as the limit and one
-abbrev pub NumberIs : List ℕ → (at limit : ℕ) → Number → Type 0
-NumberIs text at limit (Number.Read value end) = (n : ℕ) × Whole text at end n × (value ≡ min n (suc limit)) × (end ≤ length text)
-NumberIs text at limit Number.Missing = (end n : ℕ) → Whole text at end n → ⊥
+abbrev pub NumberIs : List ℕ → (at limit : ℕ) → Option Number → Type 0
+NumberIs text at limit (Some number) =
+    (n : ℕ) × Whole text at number.end n × (number.value ≡ min n (suc limit)) × (number.end ≤ length text)
+NumberIs text at limit None = (end n : ℕ) → Whole text at end n → ⊥
 
--- a byte as a digit: its value, and 10 for any other byte
-pub record DigitIs (b r : ℕ) : Type 0 where
-  pub is : r < 10 → b ≡ 48 + r
-  pub none : 10 ≤ r → Digit b → ⊥
+-- the value of a byte that is a digit
+abbrev pub DigitIs : ℕ → Option ℕ → Type 0
+DigitIs b (Some d) = (d < 10) × (b ≡ 48 + d)
+DigitIs b None = Digit b → ⊥

@@ -4,15 +4,11 @@
 ghost use Rattle.std.specs.Prelude.{◌≡◌, ◌+◌, ◌*◌, ◌^◌, ◌<◌, ◌≤◌, length, get_or};
 ghost use Rattle.packed.specs.Bytes.{big_endian_of, Put};
 
-// The byte at a place, 0 past the end.
-pub fn byte_at(bytes: &[u8], at: usize) -> u32
-    ensures { (result ≡ get_or bytes.now at 0) × (result < 256) }
+// The item at a place, or another one past the end.
+pub fn item_or<T: Copy>(list: &[T], at: usize, otherwise: T) -> T
+    ensures { result ≡ get_or list.now at otherwise }
 {
-    if at < bytes.len() {
-        bytes[at] as u32
-    } else {
-        0
-    }
+    if at < list.len() { list[at] } else { otherwise }
 }
 
 // The number that `width` bytes from a place on spell, none of which is missing: no byte is tested for that.
@@ -21,10 +17,8 @@ fn whole(bytes: &[u8], width: usize, at: usize) -> u64
     ensures { (result ≡ big_endian_of bytes.now at width) × (result < 256 ^ width) }
 {
     let mut number: u64 = 0;
-    let mut k = 0;
-    while k < width {
+    for k in 0..width {
         number = number * 256 + bytes[at + k] as u64;
-        k += 1;
     }
     number
 }
@@ -43,10 +37,8 @@ pub fn big_endian(bytes: &[u8], width: usize, i: usize) -> u64
         return whole(bytes, width, at);
     }
     let mut number: u64 = 0;
-    let mut k = 0;
-    while k < width {
-        number = number * 256 + byte_at(bytes, at + k) as u64;
-        k += 1;
+    for k in 0..width {
+        number = number * 256 + item_or(bytes, at + k, 0) as u64;
     }
     number
 }
@@ -58,28 +50,8 @@ pub fn put(bytes: &mut [u8], width: usize, i: usize, number: u64)
 {
     let at = width * i;
     let mut rest = number;
-    let mut k = width;
-    while 0 < k {
-        k -= 1;
+    for k in (0..width).rev() {
         bytes[at + k] = (rest % 256) as u8;
         rest /= 256;
-    }
-}
-
-// The 64-bit word at a place, 0 past the end.
-pub fn word_at(words: &[u64], at: usize) -> u64
-    ensures { result ≡ get_or words.now at 0 }
-{
-    if at < words.len() { words[at] } else { 0 }
-}
-
-// The 16-bit number at a place, 0 past the end.
-pub fn short_at(shorts: &[u16], at: usize) -> usize
-    ensures { (result ≡ get_or shorts.now at 0) × (result < 65536) }
-{
-    if at < shorts.len() {
-        shorts[at] as usize
-    } else {
-        0
     }
 }

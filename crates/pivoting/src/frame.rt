@@ -2,9 +2,8 @@
 // Behind them are lines of as many words as there are rows: the rows' entries, the basis, the weights, the mates, and the
 // lines of the matrix. Nothing is read or written past the end.
 use crate::number::product;
-use packed::word_at;
+use packed::item_or;
 use sets::Set;
-use std::num;
 
 // Row k is a need or a limit; its entry is in line 0.
 #[derive(Clone, Copy)]
@@ -27,52 +26,57 @@ pub const MATES: usize = 3;
 // The inverse of the basis, times the divisor, a line for each row, and a last line for the costs.
 pub const MATRIX: usize = 4;
 
-pub fn sum(a: usize, b: usize) -> usize {
-    num::wrapping_add_usize(a, b)
-}
+impl Frame {
+    // Where a line begins.
+    pub fn line(self, number: usize) -> usize {
+        let before = product(number as u64, self.rows as u64) as usize;
+        self.columns.wrapping_add(64).wrapping_add(before)
+    }
 
-// Where a line begins.
-pub fn line(f: Frame, number: usize) -> usize {
-    let columns = f.columns;
-    let rows = f.rows;
-    let before = product(number as u64, rows as u64) as usize;
-    sum(sum(64, columns), before)
-}
+    // Where line k of the matrix begins.
+    pub fn matrix_line(self, k: usize) -> usize {
+        self.line(k.wrapping_add(MATRIX))
+    }
 
-pub fn get(s: &[u64], f: Frame, number: usize, k: usize) -> u64 {
-    word_at(s, sum(line(f, number), k))
-}
+    pub fn get(self, s: &[u64], number: usize, k: usize) -> u64 {
+        item_or(s, self.line(number).wrapping_add(k), 0)
+    }
 
-pub fn write(s: &mut [u64], at: usize, word: u64) {
-    if at < s.len() {
-        s[at] = word;
+    pub fn put(self, s: &mut [u64], number: usize, k: usize, word: u64) {
+        write(s, self.line(number).wrapping_add(k), word);
+    }
+
+    // The number in line k and column j of the matrix.
+    pub fn matrix(self, s: &[u64], k: usize, j: usize) -> i64 {
+        number_at(s, self.matrix_line(k).wrapping_add(j))
+    }
+
+    // The entry of row k.
+    pub fn entry(self, s: &[u64], k: usize) -> usize {
+        self.get(s, 0, k) as usize
+    }
+
+    pub fn is_need(self, e: usize) -> bool {
+        self.needs.contains(e)
+    }
+
+    // Whether a column counts for an entry: a need that it has, or a limit that it lacks.
+    pub fn counts(self, c: Set, e: usize) -> bool {
+        self.is_need(e) == c.contains(e)
     }
 }
 
-pub fn put(s: &mut [u64], f: Frame, number: usize, k: usize, word: u64) {
-    write(s, sum(line(f, number), k), word);
+pub fn number_at(s: &[u64], at: usize) -> i64 {
+    item_or(s, at, 0).cast_signed()
 }
 
-// The entry of row k.
-pub fn entry(s: &[u64], f: Frame, k: usize) -> usize {
-    get(s, f, 0, k) as usize
-}
-
-pub fn is_need(f: Frame, e: usize) -> bool {
-    let needs = f.needs;
-    needs.contains(e)
+pub fn write(s: &mut [u64], at: usize, word: u64) {
+    if let Some(place) = s.get_mut(at) {
+        *place = word;
+    }
 }
 
 // The code of a column.
 pub fn code(s: &[u64], v: usize) -> Set {
-    Set::of_code(word_at(s, sum(64, v)))
-}
-
-// Whether a column counts for an entry: a need that it has, or a limit that it lacks.
-pub fn counts(f: Frame, c: Set, e: usize) -> bool {
-    if is_need(f, e) {
-        c.contains(e)
-    } else {
-        !c.contains(e)
-    }
+    Set::of_code(item_or(s, v.wrapping_add(64), 0))
 }

@@ -1,46 +1,25 @@
-// Whole numbers, negative ones too, in one word: a negative one is the word that its size added to gives 0. What passes a
-// word wraps, and factors are cut: whoever uses these numbers checks what comes out.
-ghost use Rattle.std.specs.Prelude.{◌<◌};
-
-use std::num;
+// Whole numbers, negative ones too. What passes a word wraps, and factors are cut: whoever uses these numbers checks what comes
+// out.
+ghost use Rattle.std.specs.Prelude.{◌≤◌};
 
 // Numbers from here on are given up.
 const TOP: u64 = 1073741824;
 
-pub fn plus(a: u64, b: u64) -> u64 {
-    num::wrapping_add_u64(a, b)
+pub fn is_large(a: i64) -> bool {
+    TOP <= a.unsigned_abs()
 }
 
-pub fn minus(a: u64, b: u64) -> u64 {
-    num::wrapping_sub_u64(a, b)
-}
-
-pub fn is_negative(a: u64) -> bool {
-    9223372036854775808 <= a
-}
-
-pub fn size(a: u64) -> u64 {
-    if is_negative(a) { minus(0, a) } else { a }
-}
-
-pub fn is_large(a: u64) -> bool {
-    TOP <= size(a)
-}
-
-// The size with the sign of another number.
-fn signed(size: u64, like: u64) -> u64 {
-    if is_negative(like) {
-        minus(0, size)
-    } else {
-        size
-    }
+// A size with the sign of a number.
+fn signed(size: u64, like: i64) -> i64 {
+    let a = size.cast_signed();
+    if like < 0 { a.wrapping_neg() } else { a }
 }
 
 // A size as a factor.
 fn factor(a: u64) -> u64
-    ensures { result < 2147483648 }
+    ensures { result ≤ 2147483647 }
 {
-    if a < 2147483648 { a } else { 2147483647 }
+    a.min(2147483647)
 }
 
 // The product of two sizes.
@@ -48,29 +27,18 @@ pub fn product(a: u64, b: u64) -> u64 {
     factor(a) * factor(b)
 }
 
-pub fn times(a: u64, b: u64) -> u64 {
-    signed(product(size(a), size(b)), a ^ b)
+pub fn times(a: i64, b: i64) -> i64 {
+    signed(product(a.unsigned_abs(), b.unsigned_abs()), a ^ b)
 }
 
 // The quotient by a size, cut towards 0.
-pub fn over(a: u64, d: u64) -> u64 {
-    if d == 0 {
-        return 0;
-    }
-    signed(size(a) / d, a)
-}
-
-// What is left of a size over another, below that.
-pub fn left(a: u64, d: u64) -> u64 {
-    if d == 0 { 0 } else { a % d }
+pub fn over(a: i64, d: u64) -> i64 {
+    signed(a.unsigned_abs().checked_div(d).unwrap_or(0), a)
 }
 
 // What is left of a number over a size: from 0 to below the size.
-pub fn rest(a: u64, d: u64) -> u64 {
-    let r = left(size(a), d);
-    if is_negative(a) {
-        left(minus(d, r), d)
-    } else {
-        r
-    }
+pub fn rest(a: i64, d: u64) -> u64 {
+    a.checked_rem_euclid(d.cast_signed())
+        .unwrap_or(0)
+        .cast_unsigned()
 }

@@ -1,11 +1,10 @@
 // One step of the simplex method: a row whose variable is negative, a variable that can take its place, and the exchange.
 // The matrix is whole numbers over a common divisor d, so nothing is rounded.
 use crate::frame;
-use crate::frame::{Frame, MATRIX};
-use crate::number::{is_large, is_negative, minus, over, plus, product, size, times};
-use packed::word_at;
+use crate::frame::{Frame, number_at};
+use crate::number::{is_large, over, product, times};
 
-// A variable, or a row, with what speaks for it.
+// A variable that can take the place of a row's, the size of its coefficient in that row, and its price.
 #[derive(Clone, Copy)]
 pub struct Choice {
     pub at: usize,
@@ -13,200 +12,156 @@ pub struct Choice {
     pub price: u64,
 }
 
+impl Choice {
+    // Whether it is better than another: a lower price for its size, or at the same the smaller size.
+    fn beats(self, other: Choice) -> bool {
+        let mine = product(self.price, other.size);
+        let theirs = product(other.price, self.size);
+        mine < theirs || mine == theirs && self.size < other.size
+    }
+}
+
 // A number with the sign of a row: a limit counts downwards.
-fn signed(f: Frame, e: usize, x: u64) -> u64 {
-    if frame::is_need(f, e) { x } else { minus(0, x) }
+fn signed(f: Frame, e: usize, x: i64) -> i64 {
+    if f.is_need(e) { x } else { x.wrapping_neg() }
 }
 
 // The value of row k's variable, times d.
-pub fn value(s: &[u64], f: Frame, k: usize) -> u64 {
-    let rows = f.rows;
-    let at = frame::line(f, frame::sum(MATRIX, k));
-    let mut total: u64 = 0;
-    let mut j: usize = 0;
-    while j < rows {
-        let e = frame::entry(s, f, j);
-        let x = word_at(s, frame::sum(at, j));
-        total = plus(total, signed(f, e, times(x, word_at(s, e))));
-        j += 1;
+pub fn value(s: &[u64], f: Frame, k: usize) -> i64 {
+    let at = f.matrix_line(k);
+    let mut total: i64 = 0;
+    for j in 0..f.rows {
+        let e = f.entry(s, j);
+        let x = number_at(s, at.wrapping_add(j));
+        total = total.wrapping_add(signed(f, e, times(x, number_at(s, e))));
     }
     total
 }
 
 // Line k of the matrix times column v.
-fn along(s: &[u64], f: Frame, k: usize, v: usize) -> u64 {
-    let rows = f.rows;
+fn along(s: &[u64], f: Frame, k: usize, v: usize) -> i64 {
     let c = frame::code(s, v);
-    let at = frame::line(f, frame::sum(MATRIX, k));
-    let mut total: u64 = 0;
-    let mut j: usize = 0;
-    while j < rows {
-        let e = frame::entry(s, f, j);
-        if frame::counts(f, c, e) {
-            total = plus(total, signed(f, e, word_at(s, frame::sum(at, j))));
+    let at = f.matrix_line(k);
+    let mut total: i64 = 0;
+    for j in 0..f.rows {
+        let e = f.entry(s, j);
+        if f.counts(c, e) {
+            total = total.wrapping_add(signed(f, e, number_at(s, at.wrapping_add(j))));
         }
-        j += 1;
     }
     total
 }
 
 // Line k of the matrix times a variable's column, or the slack's.
-fn coefficient(s: &[u64], f: Frame, k: usize, v: usize) -> u64 {
-    let columns = f.columns;
-    if v < columns {
-        return along(s, f, k, v);
+fn coefficient(s: &[u64], f: Frame, k: usize, v: usize) -> i64 {
+    if v < f.columns {
+        along(s, f, k, v)
+    } else {
+        f.matrix(s, k, v - f.columns).wrapping_neg()
     }
-    minus(0, frame::get(s, f, frame::sum(MATRIX, k), v - columns))
 }
 
 // What a variable costs: a column costs as much as the limits that it draws on.
 fn cost(s: &[u64], f: Frame, v: usize) -> u64 {
-    let columns = f.columns;
-    let limits = f.limits;
-    if v < columns {
-        return limits.minus(frame::code(s, v)).len() as u64;
+    if v < f.columns {
+        f.limits.minus(frame::code(s, v)).len() as u64
+    } else {
+        0
     }
-    0
 }
 
 // What a variable costs beyond what it saves, times d.
-fn price(s: &[u64], f: Frame, v: usize, d: u64) -> u64 {
-    minus(product(cost(s, f, v), d), coefficient(s, f, f.rows, v))
+fn price(s: &[u64], f: Frame, v: usize, d: u64) -> i64 {
+    product(cost(s, f, v), d)
+        .cast_signed()
+        .wrapping_sub(coefficient(s, f, f.rows, v))
 }
 
-// The row whose variable is the most negative; its size is 0 if there is none.
-pub fn leaving(s: &[u64], f: Frame) -> Choice {
-    let rows = f.rows;
-    let mut at: usize = 0;
-    let mut most: u64 = 0;
-    let mut k: usize = 0;
-    while k < rows {
+// The row whose variable is the most negative, if one is negative.
+pub fn leaving(s: &[u64], f: Frame) -> Option<usize> {
+    let mut found = None;
+    let mut least: i64 = 0;
+    for k in 0..f.rows {
         let x = value(s, f, k);
-        if is_negative(x) {
-            if most < size(x) {
-                most = size(x);
-                at = k;
-            }
+        if x < least {
+            least = x;
+            found = Some(k);
         }
-        k += 1;
     }
-    Choice {
-        at,
-        size: most,
-        price: 0,
-    }
+    found
 }
 
-// Whether the first choice is better: a lower price for its size, or at the same the smaller size.
-fn better(a: Choice, b: Choice) -> bool {
-    if b.size == 0 {
-        return true;
-    }
-    let first = product(a.price, b.size);
-    let second = product(b.price, a.size);
-    if first == second {
-        return a.size < b.size;
-    }
-    first < second
-}
-
-// The better of a choice and variable v, if that has a negative coefficient in row r.
-fn weigh(s: &[u64], f: Frame, r: usize, v: usize, d: u64, best: Choice) -> Choice {
+// Variable v as a choice for row r, if it has a negative coefficient there. A negative price counts as the highest.
+fn candidate(s: &[u64], f: Frame, r: usize, v: usize, d: u64) -> Option<Choice> {
     let a = coefficient(s, f, r, v);
-    if !is_negative(a) {
-        return best;
+    if 0 <= a {
+        return None;
     }
-    let next = Choice {
+    Some(Choice {
         at: v,
-        size: size(a),
-        price: price(s, f, v, d),
-    };
-    if better(next, best) { next } else { best }
+        size: a.unsigned_abs(),
+        price: price(s, f, v, d).cast_unsigned(),
+    })
 }
 
-// The variable that can take the place of row r's; its size is 0 if there is none.
-pub fn entering(s: &[u64], f: Frame, r: usize, d: u64) -> Choice {
-    let all = frame::sum(f.columns, f.rows);
-    let mut best = Choice {
-        at: 0,
-        size: 0,
-        price: 0,
-    };
-    let mut v: usize = 0;
-    while v < all {
-        best = weigh(s, f, r, v, d, best);
-        v += 1;
-    }
-    best
+// The best variable that can take the place of row r's.
+pub fn entering(s: &[u64], f: Frame, r: usize, d: u64) -> Option<Choice> {
+    (0..f.columns.wrapping_add(f.rows))
+        .filter_map(|v| candidate(s, f, r, v, d))
+        .reduce(|best, next| if next.beats(best) { next } else { best })
 }
 
 // Adds to the word at a place so much of another that the entering variable goes: it has a in the one's line and -p in the
-// other's. d is the old divisor. False if the number is too large.
-fn mix(s: &mut [u64], to: usize, from: usize, a: u64, p: u64, d: u64) -> bool {
-    let x = over(
-        plus(times(p, word_at(s, to)), times(a, word_at(s, from))),
-        d,
-    );
+// other's. d is the old divisor. None if the number is too large.
+fn mix(s: &mut [u64], to: usize, from: usize, a: i64, p: i64, d: u64) -> Option<()> {
+    let sum = times(p, number_at(s, to)).wrapping_add(times(a, number_at(s, from)));
+    let x = over(sum, d);
     if is_large(x) {
-        return false;
+        return None;
     }
-    frame::write(s, to, x);
-    true
+    frame::write(s, to, x.cast_unsigned());
+    Some(())
 }
 
 // The same for line i, with line r.
-fn combine(s: &mut [u64], f: Frame, i: usize, r: usize, a: u64, p: u64, d: u64) -> bool {
-    let rows = f.rows;
-    let to = frame::line(f, frame::sum(MATRIX, i));
-    let from = frame::line(f, frame::sum(MATRIX, r));
-    let mut j: usize = 0;
-    while j < rows {
-        if !mix(s, frame::sum(to, j), frame::sum(from, j), a, p, d) {
-            return false;
-        }
-        j += 1;
+fn combine(s: &mut [u64], f: Frame, i: usize, r: usize, a: i64, p: i64, d: u64) -> Option<()> {
+    let to = f.matrix_line(i);
+    let from = f.matrix_line(r);
+    for j in 0..f.rows {
+        mix(s, to.wrapping_add(j), from.wrapping_add(j), a, p, d)?;
     }
-    true
+    Some(())
 }
 
 // What the entering variable has in line i; the last line has the costs.
-fn pivot_line(s: &mut [u64], f: Frame, i: usize, r: usize, v: usize, p: u64, d: u64) -> bool {
-    if i == r {
-        return true;
-    }
-    let rows = f.rows;
-    let a = if i < rows {
+fn pivot_line(s: &mut [u64], f: Frame, i: usize, r: usize, v: usize, p: i64, d: u64) -> Option<()> {
+    let a = if i < f.rows {
         coefficient(s, f, i, v)
     } else {
-        minus(0, price(s, f, v, d))
+        price(s, f, v, d).wrapping_neg()
     };
     if is_large(a) {
-        return false;
+        return None;
     }
     combine(s, f, i, r, a, p, d)
 }
 
-// All lines but line r; false if a number grew too large.
-pub fn pivot_lines(s: &mut [u64], f: Frame, r: usize, v: usize, p: u64, d: u64) -> bool {
-    let lines = frame::sum(f.rows, 1);
-    let mut i: usize = 0;
-    while i < lines {
-        if !pivot_line(s, f, i, r, v, p, d) {
-            return false;
+// All lines but line r; None if a number grew too large.
+pub fn pivot_lines(s: &mut [u64], f: Frame, r: usize, v: usize, p: i64, d: u64) -> Option<()> {
+    for i in 0..=f.rows {
+        if i != r {
+            pivot_line(s, f, i, r, v, p, d)?;
         }
-        i += 1;
     }
-    true
+    Some(())
 }
 
 // Line r with the other sign.
 pub fn negate(s: &mut [u64], f: Frame, r: usize) {
-    let rows = f.rows;
-    let at = frame::line(f, frame::sum(MATRIX, r));
-    let mut j: usize = 0;
-    while j < rows {
-        let x = minus(0, word_at(s, frame::sum(at, j)));
-        frame::write(s, frame::sum(at, j), x);
-        j += 1;
+    let line = f.matrix_line(r);
+    for j in 0..f.rows {
+        let at = line.wrapping_add(j);
+        let x = number_at(s, at).wrapping_neg();
+        frame::write(s, at, x.cast_unsigned());
     }
 }

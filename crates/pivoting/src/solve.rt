@@ -1,7 +1,8 @@
 // The simplex method: steps until no row's variable is negative, or a row shows that it stays so.
 use crate::frame::{BASIS, Frame};
 use crate::pivot::Choice;
-use crate::{frame, number, pivot};
+use crate::{number, pivot};
+use std::ops::ControlFlow;
 
 // How many steps are tried.
 const STEPS: usize = 400;
@@ -16,52 +17,39 @@ pub enum Stage {
     Lost,
 }
 
-#[derive(Clone, Copy)]
-enum Turn {
-    Stop(Stage),
-    Go(u64),
-}
-
-// The choice's variable takes the place of row r's; its size is the new divisor.
-fn exchange(s: &mut [u64], f: Frame, r: usize, chosen: Choice, d: u64) -> Turn {
-    let v = chosen.at;
-    let p = chosen.size;
+// The choice's variable takes the place of row r's; its size is the new divisor. None if a number is too large.
+fn exchange(s: &mut [u64], f: Frame, r: usize, chosen: Choice, d: u64) -> Option<u64> {
+    let p = chosen.size.cast_signed();
     if number::is_large(p) {
-        return Turn::Stop(Stage::Lost);
+        return None;
     }
-    if !pivot::pivot_lines(s, f, r, v, p, d) {
-        return Turn::Stop(Stage::Lost);
-    }
+    pivot::pivot_lines(s, f, r, chosen.at, p, d)?;
     pivot::negate(s, f, r);
-    frame::put(s, f, BASIS, r, v as u64);
-    Turn::Go(p)
+    f.put(s, BASIS, r, chosen.at as u64);
+    Some(chosen.size)
 }
 
-// One step.
-fn step(s: &mut [u64], f: Frame, d: u64) -> Turn {
-    let row = pivot::leaving(s, f);
-    let r = row.at;
-    if row.size == 0 {
-        return Turn::Stop(Stage::Vertex(d));
+// One step: the next divisor, or how it ends.
+fn step(s: &mut [u64], f: Frame, d: u64) -> ControlFlow<Stage, u64> {
+    let Some(r) = pivot::leaving(s, f) else {
+        return ControlFlow::Break(Stage::Vertex(d));
+    };
+    let Some(chosen) = pivot::entering(s, f, r, d) else {
+        return ControlFlow::Break(Stage::Refuted(r));
+    };
+    match exchange(s, f, r, chosen, d) {
+        Some(next) => ControlFlow::Continue(next),
+        None => ControlFlow::Break(Stage::Lost),
     }
-    let chosen = pivot::entering(s, f, r, d);
-    if chosen.size == 0 {
-        return Turn::Stop(Stage::Refuted(r));
-    }
-    exchange(s, f, r, chosen, d)
 }
 
 pub fn solve(s: &mut [u64], f: Frame) -> Stage {
     let mut d: u64 = 1;
-    let mut steps: usize = 0;
-    while steps < STEPS {
+    for _ in 0..STEPS {
         match step(s, f, d) {
-            Turn::Stop(stage) => return stage,
-            Turn::Go(next) => {
-                d = next;
-            }
+            ControlFlow::Continue(next) => d = next,
+            ControlFlow::Break(stage) => return stage,
         }
-        steps += 1;
     }
     Stage::Lost
 }

@@ -5,9 +5,7 @@ use Prim.Native.Nat.{ℕ, suc, ◌+◌, ◌*◌, ◌<◌, ◌≤◌}
 use native.Mathlib.Omega.{arith}
 use lib.ListN.{length}
 use borrow.Author.Tests.{lt-leb}
-use Rattle.faults.specs.declared.Verdict.{Verdict}
-use Rattle.faults.specs.declared.Verdict.TheVariants.{Accepted}
-use Rattle.faults.specs.Verdict.{each}
+use Rattle.faults.specs.Verdict.{Verdict, accepted, each}
 use Rattle.semantics.specs.Formula.{Formula, verum, falsum, fact, neg, conj, disj, at_least, at_most}
 use Rattle.table.specs.declared.entry.Entry.{Entry}
 use Rattle.table.specs.Entry.{entry_in}
@@ -78,39 +76,39 @@ module _ (entry : ℕ → Entry) where
 
 -- where the references of an entry are smaller than its number it has no fault, as the fields that its kind does not use are 0
 module _ (i j : ℕ) (h : j < i) where
-  fine_negated : entry_verdict (negated j) i ≡ Accepted
+  fine_negated : entry_verdict (negated j) i ≡ accepted
   unfolding uses_of
   fine_negated = rw (lt-leb i j h) refl
 
-  fine_least : (n r : ℕ) → entry_verdict (counting 6 n r j) i ≡ Accepted
+  fine_least : (n r : ℕ) → entry_verdict (counting 6 n r j) i ≡ accepted
   unfolding uses_of
   fine_least n r = rw (lt-leb i j h) refl
 
-  fine_most : (n r : ℕ) → entry_verdict (counting 7 n r j) i ≡ Accepted
+  fine_most : (n r : ℕ) → entry_verdict (counting 7 n r j) i ≡ accepted
   unfolding uses_of
   fine_most n r = rw (lt-leb i j h) refl
 
   module _ (k : ℕ) (l : k < i) where
-    fine_conj : entry_verdict (joining 4 j k) i ≡ Accepted
+    fine_conj : entry_verdict (joining 4 j k) i ≡ accepted
     unfolding uses_of
     fine_conj = rw (lt-leb i j h, lt-leb i k l) refl
 
-    fine_disj : entry_verdict (joining 5 j k) i ≡ Accepted
+    fine_disj : entry_verdict (joining 5 j k) i ≡ accepted
     unfolding uses_of
     fine_disj = rw (lt-leb i j h, lt-leb i k l) refl
 
 -- one more check that accepts
-more : (v : ℕ → Verdict) (i : ℕ) {n : ℕ} → n ≡ suc i → each v i ≡ Accepted → v i ≡ Accepted → each v n ≡ Accepted
+more : (v : ℕ → Verdict) (i : ℕ) {n : ℕ} → n ≡ suc i → each v i ≡ accepted → v i ≡ accepted → each v n ≡ accepted
 unfolding each
 more v i next before here = rw (next, before, here) refl
 
 module _ (entry : ℕ → Entry) where
-  one_entry : (i : ℕ) (e : Entry) {n : ℕ} → n ≡ suc i → entries_verdict entry i ≡ Accepted → entry i ≡ e → entry_verdict e i ≡ Accepted
-      → entries_verdict entry n ≡ Accepted
+  one_entry : (i : ℕ) (e : Entry) {n : ℕ} → n ≡ suc i → entries_verdict entry i ≡ accepted → entry i ≡ e → entry_verdict e i ≡ accepted
+      → entries_verdict entry n ≡ accepted
   one_entry i e next before known fine = more _ i next before (ap (λ (e : Entry). entry_verdict e i) known ∙ fine)
 
   -- where the entries before a formula's are accepted, so are those up to its own
-  ordered_entries : (b : ℕ) (φ : Formula) → Ordered entry b φ → entries_verdict entry b ≡ Accepted → entries_verdict entry (b + size φ) ≡ Accepted
+  ordered_entries : (b : ℕ) (φ : Formula) → Ordered entry b φ → entries_verdict entry b ≡ accepted → entries_verdict entry (b + size φ) ≡ accepted
   unfolding Ordered inner uses_of
   ordered_entries b verum o before = one_entry b (plain 0) (omega arith) before o refl
   ordered_entries b falsum o before = one_entry b (plain 1) (omega arith) before o refl
@@ -133,7 +131,7 @@ module _ (entry : ℕ → Entry) where
 
 -- a table with just the entries of a formula is accepted, if they are not too many
 pub ordered_accepted : (bytes : List ℕ) (φ : Formula) → length bytes ≡ 4 * size φ → size φ ≤ 64 → Ordered (entry_in bytes) 0 φ
-    → table_verdict bytes ≡ Accepted
+    → table_verdict bytes ≡ accepted
 unfolding each
 ordered_accepted bytes φ long few o =
     entries_accepted bytes (0 + size φ) (omega arith) (omega arith) (omega arith) (ordered_entries (entry_in bytes) 0 φ o refl)

@@ -7,11 +7,9 @@ ghost use Rattle.std.specs.Prelude.{◌≡◌, ◌<◌, ◌≤◌, true, length}
 ghost use Rattle.sets.specs.Set.{member, nothing, Within};
 
 use counting::question::{Question, asked};
-use numbers::max;
-use packed::word_at;
+use packed::item_or;
 use sets::Set;
-use simplex::row_weights::{Sides, exceeds};
-use std::num;
+use simplex::row_weights::Sides;
 
 // The needs, the entries that weigh something, the divisor by which weights are rounded, and the weights of all entries: bit b
 // of an entry's weight is in plane b. Greater weights are halved until they fit, and not rounded then.
@@ -20,83 +18,63 @@ pub struct Prices {
     pub needs: Set,
     pub heavy: Set,
     pub divisor: u64,
-    pub planes: [u64; 8],
+    pub planes: [Set; 8],
 }
 
 // No needs, and nothing weighs anything.
 pub fn flat() -> Prices {
-    let planes = [0u64; 8];
     Prices {
         needs: Set::empty(),
         heavy: Set::empty(),
         divisor: 1,
-        planes,
+        planes: [Set::empty(); 8],
     }
 }
 
 // The weight of entry i. The weights are the 64 words from a place on.
 fn weight(words: &[u64], from: usize, i: usize) -> u64 {
-    word_at(words, num::wrapping_add_usize(from, i))
+    item_or(words, from.wrapping_add(i), 0)
 }
 
 // The greatest weight.
 fn greatest(words: &[u64], from: usize) -> u64 {
-    let mut most: u64 = 0;
-    let mut i: usize = 0;
-    while i < 64 {
-        most = max(most, weight(words, from, i));
-        i += 1;
-    }
-    most
+    (0..64).map(|i| weight(words, from, i)).max().unwrap_or(0)
 }
 
 // How often a weight is halved to be below 256.
 fn halvings(weight: u64) -> usize
     ensures { result ≤ 56 }
 {
-    let zeros = u64::leading_zeros(weight);
-    if zeros < 56 { (56 - zeros) as usize } else { 0 }
+    56u32.saturating_sub(weight.leading_zeros()) as usize
 }
 
-// The entries whose weights have a bit.
-fn plane(words: &[u64], from: usize, bit: usize) -> Set
-    requires { bit < 64 }
+// The entries whose weights are as is asked.
+fn with_weight<F: Fn(u64) -> bool>(words: &[u64], from: usize, asked: F) -> Set
+    requires { F.IsAlwaysCallable asked }
 {
     let mut found = Set::empty();
-    let mut i: usize = 0;
-    while i < 64 {
-        if (weight(words, from, i) >> bit) & 1 == 1 {
+    for i in 0..64 {
+        if asked(weight(words, from, i)) {
             found = found.with(i);
         }
-        i += 1;
     }
     found
 }
 
 // The eight planes from a bit on.
-fn planes_from(words: &[u64], from: usize, lowest: usize) -> [u64; 8]
+fn planes_from(words: &[u64], from: usize, lowest: usize) -> [Set; 8]
     requires { lowest ≤ 56 }
 {
-    let mut planes = [0u64; 8];
-    let mut b: usize = 0;
-    while b < 8 {
-        planes[b] = plane(words, from, lowest + b).code();
-        b += 1;
+    let mut planes = [Set::empty(); 8];
+    for b in 0..8 {
+        planes[b] = with_weight(words, from, |w| (w >> (lowest + b)) & 1 == 1);
     }
     planes
 }
 
 // The entries that weigh something, by the 64 words from a place on.
 pub fn weighing(words: &[u64], from: usize) -> Set {
-    let mut found = Set::empty();
-    let mut i: usize = 0;
-    while i < 64 {
-        if weight(words, from, i) != 0 {
-            found = found.with(i);
-        }
-        i += 1;
-    }
-    found
+    with_weight(words, from, |w| w != 0)
 }
 
 // What the 64 words from a place on say, as weights of the entries, rounded by a divisor.
@@ -104,13 +82,11 @@ pub fn prices_from(entries: &[u64], q: Question, words: &[u64], from: usize, r: 
     requires { length entries.now ≤ 64 }
 {
     let lowest = halvings(greatest(words, from));
-    let planes = planes_from(words, from, lowest);
-    let divisor = if lowest == 0 { r } else { 1 };
     Prices {
         needs: asked(entries, q, true),
         heavy: weighing(words, from),
-        divisor,
-        planes,
+        divisor: if lowest == 0 { r } else { 1 },
+        planes: planes_from(words, from, lowest),
     }
 }
 
@@ -126,17 +102,13 @@ fn narrowed(set: Set, plane: Set) -> Set
 pub fn heaviest(p: Prices, rest: Set) -> Set
     ensures { Within (member result) (member rest) }
 {
-    let needs = p.needs;
     // Nothing weighs where there are no needs.
-    if needs.is_empty() {
+    if p.needs.is_empty() {
         return rest;
     }
-    let planes = p.planes;
     let mut found = rest;
-    let mut b: usize = 8;
-    while 0 < b {
-        b -= 1;
-        found = narrowed(found, Set::of_code(planes[b]));
+    for plane in p.planes.iter().rev() {
+        found = narrowed(found, *plane);
     }
     found
 }
@@ -148,15 +120,10 @@ pub fn weighted(p: Prices) -> Set {
 
 // What the members of a set weigh, one plane after the other from the highest on.
 fn total(p: Prices, set: Set) -> u64 {
-    let planes = p.planes;
-    let mut sum: u64 = 0;
-    let mut b: usize = 8;
-    while 0 < b {
-        b -= 1;
-        let members = Set::of_code(planes[b]).common(set) as u64;
-        sum = num::wrapping_add_u64(num::wrapping_add_u64(sum, sum), members);
-    }
-    sum
+    p.planes.iter().rev().fold(0, |sum: u64, plane| {
+        sum.wrapping_add(sum)
+            .wrapping_add(u64::from(plane.common(set)))
+    })
 }
 
 // Whether the needs in the set, rounded, weigh more than the limits outside it. Nothing else weighs, and an empty set never pays.
@@ -166,11 +133,10 @@ pub fn pays(p: Prices, set: Set) -> bool
     if set.is_empty() {
         return false;
     }
-    let needs = p.needs;
-    let limits = weighted(p).minus(needs);
+    let limits = p.heavy.minus(p.needs);
     let sides = Sides {
-        needs: total(p, needs.intersection(set)),
+        needs: total(p, p.needs.intersection(set)),
         limits: total(p, limits.minus(set)),
     };
-    exceeds(sides, p.divisor)
+    sides.exceeds(p.divisor)
 }

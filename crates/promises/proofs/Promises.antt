@@ -9,7 +9,8 @@ use native.Mathlib.Decide.{ℕ_discrete}
 use native.Mathlib.Omega.{arith}
 use lib.Dec.{eqb}
 use borrow.Author.Tests.{ne_eqb}
-use Rattle.sets.specs.Set.{member, nothing, removed, Within}
+use Rattle.std.specs.Prelude.{Option, Some, None}
+use Rattle.sets.specs.Set.{nothing, removed, Within}
 use Rattle.table.specs.declared.entry.Entry.{Entry}
 use Rattle.table.specs.Check.{uses_of}
 use Rattle.table.specs.Formulas.{depth_at, depth_of}
@@ -21,8 +22,7 @@ use Rattle.sets.proofs.Tests.{both_parts, both_made, one_of}
 use Rattle.tableau.proofs.Bounds.{bound_cases}
 use Rattle.tableau.proofs.Promises.{sat_feasible}
 use Rattle.wants.specs.declared.Wants.{Wants}
-use Rattle.wants.specs.declared.Outcome.{Outcome}
-use Rattle.wants.specs.Outcome.{SettledW, Asked, OutcomeIs}
+use Rattle.wants.specs.Outcome.{SettledW, Asked, OutcomeIs, NothingWanted}
 use Rattle.promises.specs.Promise.{Held, AllIs, only_if, Promising, Partly, Promised, PromisedIs}
 
 only_so : (b c : Bool) → only_if true b c ≡ true → c ≡ b
@@ -49,17 +49,17 @@ only_of asked Q all false true h = absurd (false≢true h)
 only_of asked Q all false false h = all false h
 
 module _ (entry : ℕ → Entry) (n e : ℕ) (w : Wants) where
-  pub held_one : (b : Bool) (r : Outcome) → OutcomeIs entry n b e w r → AllIs entry n (only_if true b) e w r
-  held_one b (Outcome.Settled w') taken = record {
+  pub held_one : (b : Bool) (r : Option Wants) → OutcomeIs entry n b e w r → AllIs entry n (only_if true b) e w r
+  held_one b (Some w') taken = record {
     settled = taken.settled;
     grows = taken.grows;
     has = λ c h. rw (only_so b c h) taken.has;
     meets = λ s v m so. taken.meets s v m (so b (only_self b));
     shallow = λ d le before c i h. ⊎_elim (before c i) (λ (l : depth_at entry i ≤ depth_at entry e). le_trans l le) (taken.no_deeper c i h);
   }
-  held_one b Outcome.Clash clash = λ s v m so. clash s v m (so b (only_self b))
+  held_one b None clash = λ s v m so. clash s v m (so b (only_self b))
 
-  pub held_none : (b : Bool) → SettledW entry n w → AllIs entry n (only_if false b) e w (Outcome.Settled w)
+  pub held_none : (b : Bool) → SettledW entry n w → AllIs entry n (only_if false b) e w (Some w)
   held_none b settled = record {
     settled = settled;
     grows = λ c i h. h;
@@ -69,23 +69,23 @@ module _ (entry : ℕ → Entry) (n e : ℕ) (w : Wants) where
   }
 
   -- whether it is asked may be told in other words
-  pub held_told : (b : Bool) {so is : Bool} → so ≡ is → (r : Outcome) → AllIs entry n (only_if so b) e w r → AllIs entry n (only_if is b) e w r
+  pub held_told : (b : Bool) {so is : Bool} → so ≡ is → (r : Option Wants) → AllIs entry n (only_if so b) e w r → AllIs entry n (only_if is b) e w r
   held_told b same r held = subst (λ x. AllIs entry n (only_if x b) e w r) same held
 
   module _ (asked : Bool → Bool) where
     -- true if that is asked, and then false if that is
-    pub held_both : {u : Wants} → Held entry n (only_if (asked true) true) e w u → (r : Outcome)
+    pub held_both : {u : Wants} → Held entry n (only_if (asked true) true) e w u → (r : Option Wants)
         → AllIs entry n (only_if (asked false) false) e u r → AllIs entry n asked e w r
-    held_both {u} one (Outcome.Settled w') two = record {
+    held_both {u} one (Some w') two = record {
       settled = two.settled;
       grows = λ c i h. two.grows c i (one.grows c i h);
       has = elim [ true ↦ λ h. two.grows true e (one.has true h) | false ↦ λ h. two.has false h ];
       meets = λ s v m so. two.meets s v (one.meets s v m (only_of asked _ so true)) (only_of asked _ so false);
       shallow = λ d le before. two.shallow d le (one.shallow d le before);
     }
-    held_both one Outcome.Clash two = λ s v m so. two s v (one.meets s v m (only_of asked _ so true)) (only_of asked _ so false)
+    held_both one None two = λ s v m so. two s v (one.meets s v m (only_of asked _ so true)) (only_of asked _ so false)
 
-    pub held_clash : AllIs entry n (only_if (asked true) true) e w Outcome.Clash → AllIs entry n asked e w Outcome.Clash
+    pub held_clash : AllIs entry n (only_if (asked true) true) e w None → AllIs entry n asked e w None
     held_clash clash = λ s v m so. clash s v m (only_of asked _ so true)
 
 -- nothing is wanted
@@ -147,13 +147,13 @@ module _ (P : Problem) (promises : ℕ → Bool) (depth : ℕ) (all : Promising 
         counting_depth b c _ (depth_at P.entry (P.entry i).first) (depth_at P.entry (P.entry i).second) k,
       )
 
-  pub partly_none : (v : Wants) → member v.yes ≡ nothing → member v.no ≡ nothing → member v.pending ≡ nothing → Partly P promises promises depth v
-  partly_none v y n p = record {
-    settled = rw (y, n, p) (empty_settled P.entry P.n);
-    shallow = rw (y, n) (elim [ true ↦ λ i h. absurd (false≢true h) | false ↦ λ i h. absurd (false≢true h) ]);
+  pub partly_none : {v : Wants} → NothingWanted v → Partly P promises promises depth v
+  partly_none none = record {
+    settled = rw (none.yes, none.no, none.pending) (empty_settled P.entry P.n);
+    shallow = rw (none.yes, none.no) (elim [ true ↦ λ i h. absurd (false≢true h) | false ↦ λ i h. absurd (false≢true h) ]);
     within = λ i h. h;
     covers = λ c i h out. absurd (false≢true (sym out ∙ h));
-    follows = λ s u keeps. rw (y, n) (record { as_wanted = elim [ true ↦ λ i h. absurd (false≢true h) | false ↦ λ i h. absurd (false≢true h) ] });
+    follows = λ s u keeps. rw (none.yes, none.no) (record { as_wanted = elim [ true ↦ λ i h. absurd (false≢true h) | false ↦ λ i h. absurd (false≢true h) ] });
   }
 
   module _ {rest : ℕ → Bool} {v : Wants} (part : Partly P promises rest depth v) where
@@ -173,8 +173,8 @@ module _ (P : Problem) (promises : ℕ → Bool) (depth : ℕ) (all : Promising 
     }
 
     pub partly_clash : (i : ℕ) → rest i ≡ true
-        → AllIs P.entry P.n (λ c. eqb (P.entry i).name P.relation && bound P.yes P.no (P.entry i) i c) (P.entry i).first v Outcome.Clash
-        → PromisedIs P promises depth Outcome.Clash
+        → AllIs P.entry P.n (λ c. eqb (P.entry i).name P.relation && bound P.yes P.no (P.entry i) i c) (P.entry i).first v None
+        → PromisedIs P promises depth None
     partly_clash i h clash here =
         clash here.structure here.world (part.follows here.structure here.world here.keeps)
         (λ c asked. here.keeps c i (part.within i h) (both_parts true (eqb (P.entry i).name P.relation) _ asked).1)

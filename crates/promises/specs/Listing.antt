@@ -1,5 +1,5 @@
 -- Lists of sets of promises that can be kept, in the last words of a level.
-use Rattle.std.specs.Prelude.{◌≡◌, ◌⊎◌, List, ℕ, suc, ◌-◌, ◌<◌, ◌≤◌, length}
+use Rattle.std.specs.Prelude.{◌≡◌, ◌⊎◌, List, Result, Ok, Err, ℕ, suc, ◌-◌, ◌<◌, ◌≤◌, length}
 use Rattle.sets.specs.declared.Set.{Set}
 use Rattle.sets.specs.Set.{member, nothing, code, both}
 use Rattle.tableau.specs.Search.{Problem, asking, Fit}
@@ -8,7 +8,7 @@ use Rattle.counting.specs.declared.question.Question.{Question}
 use Rattle.counting.specs.Question.{Small}
 use Rattle.listed.specs.Codes.{codes_from, Appended}
 use Rattle.cases.specs.Levels.{list_room, Roomy, Remembers}
-use Rattle.promises.specs.declared.listing.Listing.{Listing}
+use Rattle.promises.specs.declared.listing.Full.{Full}
 
 -- k codes stand in the room for the list, at the end of the level
 pub record Placed (n k level words : ℕ) : Type 0 where
@@ -22,9 +22,9 @@ abbrev pub list_of : (n level : ℕ) → List ℕ → (k : ℕ) → List ℕ
 list_of n level work k = codes_from work (level - list_room n) k
 
 -- one more set is listed, or there is no room
-abbrev pub AlsoIs : (n level k b : ℕ) (before after : List ℕ) → Listing → Type 0
-AlsoIs n level k b before after (Listing.Room more) = (more ≡ suc k) × (suc k ≤ list_room n) × Appended before (level - list_room n) k b after
-AlsoIs n level k b before after (Listing.Full all) = (all ≡ k) × (after ≡ before)
+abbrev pub AlsoIs : (n level k b : ℕ) (before after : List ℕ) → Result ℕ Full → Type 0
+AlsoIs n level k b before after (Ok more) = (more ≡ suc k) × (suc k ≤ list_room n) × Appended before (level - list_room n) k b after
+AlsoIs n level k b before after (Err full) = (full.listed ≡ k) × (after ≡ before)
 
 -- the set is listed besides, and is not empty; or all is as before
 abbrev pub AlsoNew : (n level k : ℕ) (set : Set) (before after : List ℕ) (r : ℕ) → Type 0

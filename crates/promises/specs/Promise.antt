@@ -1,5 +1,5 @@
 -- What the promises of a successor come to: as wants at its world, and as the parts that are true or false there.
-use Rattle.std.specs.Prelude.{◌≡◌, Bool, true, false, ℕ, suc, ◌<◌, ◌≤◌}
+use Rattle.std.specs.Prelude.{◌≡◌, Bool, true, false, Option, Some, None, ℕ, suc, ◌<◌, ◌≤◌}
 use Rattle.semantics.specs.Structure.{Structure}
 use Rattle.semantics.specs.Truth.{truth}
 use Rattle.sets.specs.Set.{Within}
@@ -10,7 +10,6 @@ use Rattle.tableau.specs.Wants.{truth_at, wanted}
 use Rattle.tableau.specs.Counting.{bound, part_of, Feasible}
 use Rattle.tableau.specs.Search.{Problem, asking}
 use Rattle.wants.specs.declared.Wants.{Wants}
-use Rattle.wants.specs.declared.Outcome.{Outcome}
 use Rattle.wants.specs.Outcome.{wanted_w, GrowsW, MeetsW, SettledW}
 use Rattle.cases.specs.World.{SatW, Ready}
 
@@ -24,12 +23,12 @@ module _ (entry : ℕ → Entry) (n : ℕ) where
     pub shallow : (d : ℕ) → depth_at entry e ≤ d → ((c : Bool) (i : ℕ) → wanted_w w c i ≡ true → depth_at entry i ≤ d)
         → (c : Bool) (i : ℕ) → wanted_w w' c i ≡ true → depth_at entry i ≤ d
 
-  abbrev pub AllIs : (Bool → Bool) → ℕ → Wants → Outcome → Type 0
-  AllIs asked e w (Outcome.Settled w') = Held asked e w w'
-  AllIs asked e w Outcome.Clash = (s : Structure) (v : ℕ) → MeetsW entry s v w → ((b : Bool) → asked b ≡ true → truth_at entry s v e ≡ b) → ⊥
+  abbrev pub AllIs : (Bool → Bool) → ℕ → Wants → Option Wants → Type 0
+  AllIs asked e w (Some w') = Held asked e w w'
+  AllIs asked e w None = (s : Structure) (v : ℕ) → MeetsW entry s v w → ((b : Bool) → asked b ≡ true → truth_at entry s v e ≡ b) → ⊥
 
   -- the part of entry i as it is asked
-  abbrev pub PartIs : (Bool → Bool) → ℕ → Wants → Outcome → Type 0
+  abbrev pub PartIs : (Bool → Bool) → ℕ → Wants → Option Wants → Type 0
   PartIs asked i = AllIs asked (entry i).first
 
 -- b is asked, if so
@@ -66,9 +65,9 @@ module _ (P : Problem) where
     pub sound : SatW P.entry v → Feasible P.entry P.yes P.no promises
     pub complete : Feasible P.entry P.yes P.no promises → SatW P.entry v
 
-  abbrev pub PromisedIs : (ℕ → Bool) → ℕ → Outcome → Type 0
-  PromisedIs promises depth (Outcome.Settled v) = Promised promises depth v
-  PromisedIs promises depth Outcome.Clash = Feasible P.entry P.yes P.no promises → ⊥
+  abbrev pub PromisedIs : (ℕ → Bool) → ℕ → Option Wants → Type 0
+  PromisedIs promises depth (Some v) = Promised promises depth v
+  PromisedIs promises depth None = Feasible P.entry P.yes P.no promises → ⊥
 
   -- entry j is the part of a promised need (c true), or of a promised limit (c false)
   abbrev pub HasPart : (promises : ℕ → Bool) (c : Bool) → ℕ → Type 0

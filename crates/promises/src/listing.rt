@@ -9,19 +9,19 @@ ghost use Rattle.selection.specs.Selecting.{SolvedIs};
 ghost use Rattle.cases.specs.Levels.{list_room, Remembers};
 ghost use Rattle.promises.specs.Listing.{Placed, list_of, AlsoIs, AlsoNew, SelectAsked, WeighAsked, FitList, NarrowedIs};
 
+use cases::level::Level;
 use counting::bounds::unmet;
 use counting::question::{Question, closed};
 use listed::{append, covered};
 use pricing::{Prices, prices_from, weighing};
 use relaxing::weights;
 use selection::solved;
-use sets::{Highest, Set};
+use sets::Set;
 
-// How many sets are listed: all that there are, or as many as there is room for.
+// There is no room for more sets than are listed.
 #[derive(Clone, Copy)]
-pub enum Listing {
-    Room(usize),
-    Full(usize),
+pub struct Full {
+    pub listed: usize,
 }
 
 // Where the list begins in a level.
@@ -40,17 +40,23 @@ pub fn known(entries: &[u64], set: Set, k: usize, level: usize, work: &[u64]) ->
     covered(work, place(entries.len(), level), k, set)
 }
 
-// Lists the set too, if there is room.
-pub fn also(entries: &[u64], set: Set, k: usize, level: usize, work: &mut [u64]) -> Listing
+// Lists the set too, if there is room, and tells how many are listed then.
+pub fn also(
+    entries: &[u64],
+    set: Set,
+    k: usize,
+    level: usize,
+    work: &mut [u64],
+) -> Result<usize, Full>
     requires { Placed (length entries.now) k level (length work.old) }
     ensures { AlsoIs (length entries.now) level k (code set) work.old work.new result }
 {
     let n = entries.len();
     if 8 * n + 8 <= k {
-        return Listing::Full(k);
+        return Err(Full { listed: k });
     }
     append(work, place(n, level), k, set);
-    Listing::Room(k + 1)
+    Ok(k + 1)
 }
 
 // Lists the set too, if it is not empty and not inside a listed one, and there is room; how many are listed then.
@@ -58,16 +64,10 @@ pub fn also_new(entries: &[u64], set: Set, k: usize, level: usize, work: &mut [u
     requires { Placed (length entries.now) k level (length work.old) }
     ensures { AlsoNew (length entries.now) level k set work.old work.new result }
 {
-    if set.is_empty() {
+    if set.is_empty() || known(entries, set, k, level, work) {
         return k;
     }
-    if known(entries, set, k, level, work) {
-        return k;
-    }
-    match also(entries, set, k, level, work) {
-        Listing::Room(more) => more,
-        Listing::Full(all) => all,
-    }
+    also(entries, set, k, level, work).unwrap_or(k)
 }
 
 // Whether k listed sets give a solution.
@@ -76,33 +76,26 @@ pub fn selected(
     q: Question,
     all: Set,
     k: usize,
-    depth: usize,
-    level: usize,
+    level: Level,
     work: &mut [u64],
 ) -> bool
-    requires { SelectAsked (problem_of entries.now q) all k depth level work.old }
-    ensures { SolvedIs (problem_of entries.now q) (list_of (length entries.now) level work.old k) result
-        × Remembers (wide_in entries.now) depth level work.new }
+    requires { SelectAsked (problem_of entries.now q) all k level.depth level.size work.old }
+    ensures { SolvedIs (problem_of entries.now q) (list_of (length entries.now) level.size work.old k) result
+        × Remembers (wide_in entries.now) level.depth level.size work.new }
 {
-    let at = place(entries.len(), level);
-    let reach = (depth + 1) * level;
+    let at = place(entries.len(), level.size);
+    let reach = level.memory();
     solved(entries, q, all, &mut work[..reach], at, k)
 }
 
-// The divisor of weights that refute that k listed sets give a solution, or 0: they stand in the words behind the list then.
-pub fn weighs(
-    entries: &[u64],
-    q: Question,
-    k: usize,
-    depth: usize,
-    level: usize,
-    work: &mut [u64],
-) -> u64
-    requires { WeighAsked (problem_of entries.now q) k depth level work.old }
-    ensures { FitList (problem_of entries.now q) k depth level work.new }
+// The divisor of weights that refute that k listed sets give a solution, if any are found: they stand in the words behind the
+// list then.
+pub fn weighs(entries: &[u64], q: Question, k: usize, level: Level, work: &mut [u64]) -> Option<u64>
+    requires { WeighAsked (problem_of entries.now q) k level.depth level.size work.old }
+    ensures { FitList (problem_of entries.now q) k level.depth level.size work.new }
 {
-    let at = place(entries.len(), level);
-    let reach = (depth + 1) * level;
+    let at = place(entries.len(), level.size);
+    let reach = level.memory();
     weights(entries, q, &mut work[..reach], at, k)
 }
 
@@ -150,11 +143,9 @@ pub fn is_short(all: Set, depth: usize) -> bool {
 pub fn narrowed(q: Question, s: Set) -> Question
     ensures { NarrowedIs q s result }
 {
-    let yes = q.yes;
-    let no = q.no;
     Question {
-        yes: yes.intersection(s),
-        no: no.intersection(s),
+        yes: q.yes.intersection(s),
+        no: q.no.intersection(s),
         relation: q.relation,
     }
 }

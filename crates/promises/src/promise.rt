@@ -9,9 +9,9 @@ ghost use Rattle.wants.specs.Outcome.{Asked};
 ghost use Rattle.promises.specs.Promise.{AllIs, only_if, PartIs, Promising, PromisedIs, PartsOf};
 
 use counting::question::{Question, asks};
-use sets::{Highest, Set};
+use sets::Set;
 use table::entry::Entry;
-use wants::{Outcome, Wants, want, with_if};
+use wants::{Wants, want, with_if};
 use wide::wide_at;
 
 // The parts of promised needs, and of promised limits.
@@ -22,19 +22,19 @@ pub struct Parts {
 }
 
 // Wants entry e to be so, if that is asked.
-fn want_if(entries: &[u64], e: usize, w: Wants, truth: bool, so: bool) -> Outcome
+fn want_if(entries: &[u64], e: usize, w: Wants, truth: bool, so: bool) -> Option<Wants>
     requires { Asked (wide_in entries.now) (length entries.now) e w }
     ensures { AllIs (wide_in entries.now) (length entries.now) (only_if so truth) e w result }
 {
     if so {
         want(entries, e, w, truth)
     } else {
-        Outcome::Settled(w)
+        Some(w)
     }
 }
 
 // Wants the part of entry i as a promise of it asks: true for a need, false for a limit.
-fn want_part(entries: &[u64], q: Question, i: usize, v: Wants) -> Outcome
+fn want_part(entries: &[u64], q: Question, i: usize, v: Wants) -> Option<Wants>
     requires { Asked (wide_in entries.now) (length entries.now) (wide_in entries.now i).first v }
     ensures { PartIs (wide_in entries.now) (length entries.now) (asks q (wide_in entries.now i) i) i v result }
 {
@@ -42,33 +42,22 @@ fn want_part(entries: &[u64], q: Question, i: usize, v: Wants) -> Outcome
     let first = e.first as usize;
     let need = asks(e, q, i, true);
     let limit = asks(e, q, i, false);
-    match want_if(entries, first, v, true, need) {
-        Outcome::Settled(u) => want_if(entries, first, u, false, limit),
-        Outcome::Clash => Outcome::Clash,
-    }
+    let u = want_if(entries, first, v, true, need)?;
+    want_if(entries, first, u, false, limit)
 }
 
 // What a successor that keeps the promises of a set has to be like.
-pub fn promised(entries: &[u64], q: Question, promises: Set, depth: usize) -> Outcome
+pub fn promised(entries: &[u64], q: Question, promises: Set, depth: usize) -> Option<Wants>
     requires { Promising (problem_of entries.now q) (member promises) depth }
     ensures { PromisedIs (problem_of entries.now q) (member promises) depth result }
 {
-    let mut v = Wants {
-        yes: Set::empty(),
-        no: Set::empty(),
-        pending: Set::empty(),
-    };
+    let mut v = Wants::nothing();
     let mut rest = promises;
-    loop {
-        let Highest::At(i) = rest.highest() else {
-            return Outcome::Settled(v);
-        };
-        let Outcome::Settled(u) = want_part(entries, q, i, v) else {
-            return Outcome::Clash;
-        };
-        v = u;
+    while let Some(i) = rest.highest() {
+        v = want_part(entries, q, i, v)?;
         rest = rest.without(i);
     }
+    Some(v)
 }
 
 // The set with the part of entry i, if that is a need, or else a limit.
@@ -89,13 +78,11 @@ pub fn parts_of(entries: &[u64], q: Question, promises: Set, depth: usize) -> Pa
     let mut yes = Set::empty();
     let mut no = Set::empty();
     let mut rest = promises;
-    loop {
-        let Highest::At(i) = rest.highest() else {
-            return Parts { yes, no };
-        };
+    while let Some(i) = rest.highest() {
         let e = wide_at(entries, i);
         yes = with_part(yes, e, q, i, true);
         no = with_part(no, e, q, i, false);
         rest = rest.without(i);
     }
+    Parts { yes, no }
 }

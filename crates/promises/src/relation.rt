@@ -8,18 +8,16 @@ ghost use Rattle.promises.specs.Relation.{counting, Bounded, QuestionOf};
 use counting::question::{Question, asks};
 use sets::Set;
 use table::entry::Entry;
-use wants::Wants;
+use wants::{Wants, with_if};
 use wide::wide_at;
 
 // The question of the relation that an entry counts.
 fn question(e: Entry, w: Wants) -> Question
     ensures { QuestionOf e w result }
 {
-    let yes = w.yes;
-    let no = w.no;
     Question {
-        yes,
-        no,
+        yes: w.yes,
+        no: w.no,
         relation: e.name,
     }
 }
@@ -37,13 +35,7 @@ fn with_counting(found: Set, e: Entry, w: Wants, i: usize) -> Set
     ensures { member result ≡ added_if (counting w e i) (member found) i }
 {
     let q = question(e, w);
-    if asks(e, q, i, true) {
-        return found.with(i);
-    }
-    if asks(e, q, i, false) {
-        return found.with(i);
-    }
-    found
+    with_if(found, i, asks(e, q, i, true) || asks(e, q, i, false))
 }
 
 // All the needs and limits, of every relation.
@@ -51,12 +43,9 @@ pub fn counted(entries: &[u64], w: Wants) -> Set
     requires { Bounded (length entries.now) w }
     ensures { member result ≡ (λ i. counting w (wide_in entries.now i) i) }
 {
-    let n = entries.len();
     let mut found = Set::empty();
-    let mut i = 0;
-    while i < n {
+    for i in 0..entries.len() {
         found = with_counting(found, wide_at(entries, i), w, i);
-        i += 1;
     }
     found
 }

@@ -2,7 +2,7 @@
 // which set is the one to branch on? It works in the words behind the list, and what it finds is checked.
 #![tactic(auto)]
 
-ghost use Rattle.std.specs.Prelude.{◌+◌, ◌<◌, ◌≤◌, length};
+ghost use Rattle.std.specs.Prelude.{◌≡◌, true, ◌+◌, ◌<◌, ◌≤◌, length};
 ghost use Rattle.counting.specs.Question.{problem_of};
 ghost use Rattle.counting.specs.Stack.{slots_of};
 ghost use Rattle.listed.specs.Codes.{codes_from};
@@ -11,7 +11,6 @@ ghost use Rattle.relaxing.specs.Relaxing.{Relaxing, Scratch, SameBelow, RelaxedI
 use copies::completes;
 use counting::question::Question;
 use counting::{bounds, question};
-use packed::word_at;
 use sets::Set;
 use simplex::Verdict;
 use weights::refutes;
@@ -27,6 +26,9 @@ pub enum Relaxed {
     Unknown(usize, u64),
 }
 
+// Nothing was seen, and nothing speaks for a set or a number of copies.
+const UNSEEN: Relaxed = Relaxed::Unknown(0, 65536);
+
 // The entries with a bound that was laid out.
 #[derive(Clone, Copy)]
 struct Bounds {
@@ -34,30 +36,28 @@ struct Bounds {
     limits: Set,
 }
 
-// With entry i among the needs, if it lacks anything.
-fn with_need(found: Bounds, i: usize, lack: u64) -> Bounds
-    requires { i < 64 }
-{
-    let needs = found.needs;
-    let limits = found.limits;
-    if lack == 0 {
-        return found;
+impl Bounds {
+    // With entry i among the needs, if it lacks anything.
+    fn with_need(self, i: usize, lack: u64) -> Bounds
+        requires { i < 64 }
+    {
+        if lack == 0 {
+            return self;
+        }
+        Bounds {
+            needs: self.needs.with(i),
+            ..self
+        }
     }
-    Bounds {
-        needs: needs.with(i),
-        limits,
-    }
-}
 
-// With entry i among the limits.
-fn with_limit(found: Bounds, i: usize) -> Bounds
-    requires { i < 64 }
-{
-    let needs = found.needs;
-    let limits = found.limits;
-    Bounds {
-        needs,
-        limits: limits.with(i),
+    // With entry i among the limits.
+    fn with_limit(self, i: usize) -> Bounds
+        requires { i < 64 }
+    {
+        Bounds {
+            limits: self.limits.with(i),
+            ..self
+        }
     }
 }
 
@@ -94,11 +94,11 @@ fn lay_entry(
     let e = wide_at(entries, i);
     if question::asks(e, q, i, true) {
         let lack = lay_left(entries, words, slots, end, i, true);
-        return with_need(found, i, lack);
+        return found.with_need(i, lack);
     }
     if question::asks(e, q, i, false) {
         lay_left(entries, words, slots, end, i, false);
-        return with_limit(found, i);
+        return found.with_limit(i);
     }
     found
 }
@@ -108,29 +108,14 @@ fn lay_bounds(entries: &[u64], q: Question, words: &mut [u64], slots: usize, end
     requires { Scratch words.old slots end × (length entries.now ≤ 64) }
     ensures { SameBelow end words.old words.new }
 {
-    let n = entries.len();
     let mut found = Bounds {
         needs: Set::empty(),
         limits: Set::empty(),
     };
-    let mut i = 0;
-    while i < n {
+    for i in 0..entries.len() {
         found = lay_entry(entries, q, words, slots, end, i, found);
-        i += 1;
     }
     found
-}
-
-// Copies the k codes from a place on to another.
-fn lay_codes(words: &mut [u64], at: usize, k: usize, to: usize)
-    requires { (at + k ≤ to) × (to + k ≤ length words.old) }
-    ensures { SameBelow to words.old words.new }
-{
-    let mut j = 0;
-    while j < k {
-        words[to + j] = word_at(words, at + j);
-        j += 1;
-    }
 }
 
 // Refuted, if the weights are seen to refute.
@@ -149,7 +134,7 @@ fn by_weights(
     if refutes(entries, q, words, at, k, slots, at + k, r) {
         Relaxed::Refuted
     } else {
-        Relaxed::Unknown(0, 65536)
+        UNSEEN
     }
 }
 
@@ -168,21 +153,11 @@ fn by_copies(
     if completes(entries, q, words, at, k, slots, at + k + 64) {
         Relaxed::Solved
     } else {
-        Relaxed::Unknown(0, 65536)
+        UNSEEN
     }
 }
 
-// What the relaxation finds in the words from a place on.
-fn behind(words: &mut [u64], bounds: Bounds, end: usize, k: usize) -> Verdict
-    requires { end ≤ length words.old }
-    ensures { SameBelow end words.old words.new }
-{
-    let needs = bounds.needs;
-    let limits = bounds.limits;
-    simplex::relax(&mut words[end..], needs, limits, k)
-}
-
-// What it finds for the slots and the k sets from a place on, with bounds and codes laid out behind those.
+// What the relaxation finds for the slots and the k sets from a place on, with bounds and codes laid out behind those.
 fn found(
     entries: &[u64],
     q: Question,
@@ -196,8 +171,8 @@ fn found(
 {
     let end = at + k;
     let bounds = lay_bounds(entries, q, words, slots, end);
-    lay_codes(words, at, k, end + 64);
-    behind(words, bounds, end, k)
+    words.copy_within(at..end, end + 64);
+    simplex::relax(&mut words[end..], bounds.needs, bounds.limits, k)
 }
 
 // What that is worth: it is checked.
@@ -216,8 +191,17 @@ fn checked(
     match verdict {
         Verdict::Weights(r) => by_weights(entries, q, words, at, k, slots, r),
         Verdict::Copies => by_copies(entries, q, words, at, k, slots),
-        Verdict::Unknown(j) => Relaxed::Unknown(j, word_at(words, at + k + 64 + k)),
+        Verdict::Unknown(j, first) => Relaxed::Unknown(j, first),
     }
+}
+
+// Whether there are words for that behind the k sets from a place on.
+fn has_room(words: &[u64], at: usize, k: usize) -> bool
+    requires { at + k ≤ length words.now }
+    ensures { result ≡ true → at + k + 64 + k < length words.now }
+{
+    let spare = words.len() - at - k;
+    64 < spare && k < spare - 64
 }
 
 // What is seen of the slots and the k sets from a place on.
@@ -232,33 +216,24 @@ pub fn seen(
     requires { Relaxing (problem_of entries.now q) words.old at k slots }
     ensures { Seen (problem_of entries.now q) words.old at k slots result words.new }
 {
-    let spare = words.len() - at - k;
-    if spare <= 64 {
-        return Relaxed::Unknown(0, 65536);
-    }
-    if spare - 64 <= k {
-        return Relaxed::Unknown(0, 65536);
+    if !has_room(words, at, k) {
+        return UNSEEN;
     }
     let verdict = found(entries, q, words, at, k, slots);
     checked(entries, q, words, at, k, slots, verdict)
 }
 
-// The divisor of weights that refute that the k sets from a place on give a solution, or 0 if none are found. The weights stand
-// in the 64 words behind those then. Nothing is promised of them: sets that are not listed may still give one.
-pub fn weights(entries: &[u64], q: Question, words: &mut [u64], at: usize, k: usize) -> u64
+// The divisor of weights that refute that the k sets from a place on give a solution, if some are found. The weights stand in
+// the 64 words behind those then. Nothing is promised of them: sets that are not listed may still give one.
+pub fn weights(entries: &[u64], q: Question, words: &mut [u64], at: usize, k: usize) -> Option<u64>
     requires { Relaxing (problem_of entries.now q) words.old at k 0 }
     ensures { SameBelow (at + k) words.old words.new }
 {
-    let spare = words.len() - at - k;
-    if spare <= 64 {
-        return 0;
+    if !has_room(words, at, k) {
+        return None;
     }
-    if spare - 64 <= k {
-        return 0;
-    }
-    let verdict = found(entries, q, words, at, k, 0);
-    match verdict {
-        Verdict::Weights(r) => r,
-        _ => 0,
+    match found(entries, q, words, at, k, 0) {
+        Verdict::Weights(r) => Some(r),
+        Verdict::Copies | Verdict::Unknown(_, _) => None,
     }
 }

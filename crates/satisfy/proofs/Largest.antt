@@ -11,6 +11,7 @@ use native.Mathlib.Omega.{arith}
 use lib.ListN.{length, take}
 use lib.Dec.{eqb}
 use borrow.Author.Tests.{eqb-true, eq-eqb, ne_eqb}
+use Rattle.std.specs.Prelude.{Result, Ok, Err}
 use Rattle.semantics.specs.Count.{count}
 use Rattle.sets.specs.declared.Set.{Set}
 use Rattle.sets.specs.Set.{member, nothing, added, removed, either, but_not, code, Within}
@@ -28,7 +29,7 @@ use Rattle.wide.specs.Wide.{wide_in}
 use Rattle.counting.specs.declared.question.Question.{Question}
 use Rattle.counting.specs.Question.{problem_of, NoNeed, Closed}
 use Rattle.listed.specs.Codes.{codes_from, Inside}
-use Rattle.promises.specs.declared.listing.Listing.{Listing}
+use Rattle.promises.specs.declared.listing.Full.{Full}
 use Rattle.satisfy.specs.declared.answers.Guess.{Guess}
 use Rattle.sets.proofs.Members.{count_removed}
 use Rattle.cases.specs.Levels.{list_room, Roomy, Remembers}
@@ -112,26 +113,26 @@ module _ (P : Problem) where
     listing_same lists memory reaches = record { lists = lists; older = λ b h. h; reaches = reaches; memory = memory }
 
     -- the words of the level were the same before
-    pub listing_from : k ≤ list_room P.n → list_room P.n ≤ level → (before mid after : List ℕ) → take level mid ≡ take level before → (r : Listing)
+    pub listing_from : k ≤ list_room P.n → list_room P.n ≤ level → (before mid after : List ℕ) → take level mid ≡ take level before → (r : Result ℕ Full)
         → ListingIs P low high k depth level mid after r → ListingIs P low high k depth level before after r
-    listing_from some room before mid after same (Listing.Room more) h = record {
+    listing_from some room before mid after same (Ok more) h = record {
       lists = h.lists;
       older = λ b i. h.older b (rw (list_kept P.n some room before mid same) i);
       reaches = h.reaches;
       memory = h.memory;
     }
-    listing_from some room before mid after same (Listing.Full all) h = h
+    listing_from some room before mid after same (Err full) h = h
 
     -- the set of all that is looked for can be kept
     pub listing_also : (before after : List ℕ) (b : ℕ) → list_room P.n ≤ level → Lists P k level before → Remembers P.entry depth level before → Fit P b
-        → Within high (bit_at b) → (r : Listing) → AlsoIs P.n level k b before after r → ListingIs P low high k depth level before after r
-    listing_also before after b room lists memory fit above (Listing.Room more) (is, some, appended) = rw is (record {
+        → Within high (bit_at b) → (r : Result ℕ Full) → AlsoIs P.n level k b before after r → ListingIs P low high k depth level before after r
+    listing_also before after b room lists memory fit above (Ok more) (is, some, appended) = rw is (record {
       lists = record { some = some; fit = λ c h. ⊎_elim (λ (e : c ≡ b). rw e fit) (lists.fit c) (appended.no_other c h) };
       older = appended.older;
       reaches = λ row f least most i asks promised. (b, appended.new, λ j h. above j (most j h));
       memory = memory_moved P.entry after (suc depth * level) memory (λ i. appended.elsewhere (suc depth * level + i) (omega (arith, suc-mul depth level)));
     })
-    listing_also before after b room lists memory fit above (Listing.Full all) (is, same) = rw (is, same) (record { lists = lists; memory = memory })
+    listing_also before after b room lists memory fit above (Err full) (is, same) = rw (is, same) (record { lists = lists; memory = memory })
 
 -- whatever is guessed, the answers kept are right
 pub guess_memory : (P : Problem) (depth level : ℕ) (after : List ℕ) (g : Guess) → GuessIs P depth level after g → Remembers P.entry depth level after
@@ -144,7 +145,7 @@ pub listed_new : (P : Problem) {k : ℕ} (depth level : ℕ) (before after : Lis
     → Remembers P.entry depth level before → FitIfAny P set → (r : ℕ) → AlsoNew P.n level k set before after r → FitList P r depth level after
 listed_new P depth level before after set room lists memory fit r (inl (is, some, appended, filled)) =
     let more = listing_also P nothing nothing depth level before after (code set) room lists memory
-    (⊎_elim (λ (none : member set ≡ nothing). absurd (filled none)) (λ (f : Fit P (code set)). f) fit) (λ i h. absurd (false≢true h)) (Listing.Room r) (is, some, appended) in
+    (⊎_elim (λ (none : member set ≡ nothing). absurd (filled none)) (λ (f : Fit P (code set)). f) fit) (λ i h. absurd (false≢true h)) (Ok r) (is, some, appended) in
     record { lists = more.lists; memory = more.memory }
 listed_new P depth level before after set room lists memory fit r (inr (is, same)) = rw (is, same) (record { lists = lists; memory = memory })
 
@@ -183,9 +184,9 @@ module _ (P : Problem) (low free : ℕ → Bool) (i : ℕ) where
       by_promise true is = with_it row fit (added_within low i is above) (had low free i row.promises below) j asks promised
       by_promise false is = without row fit above (left_out row.promises is below) j asks promised
 
-  listing_branch : {k : ℕ} (depth level more : ℕ) (before mid after : List ℕ) → ListedMore P low (either low (removed free i)) k depth level before mid more → (r : Listing)
+  listing_branch : {k : ℕ} (depth level more : ℕ) (before mid after : List ℕ) → ListedMore P low (either low (removed free i)) k depth level before mid more → (r : Result ℕ Full)
       → ListingIs P (added low i) (either (added low i) (removed free i)) more depth level mid after r → ListingIs P low (either low free) k depth level before after r
-  listing_branch depth level more before mid after first (Listing.Room m) second = record {
+  listing_branch depth level more before mid after first (Ok m) second = record {
     lists = second.lists;
     older = λ b h. second.older b (first.older b h);
     reaches =
@@ -193,7 +194,7 @@ module _ (P : Problem) (low free : ℕ → Bool) (i : ℕ) where
         reaches_branch longer (reaches_older P low (either low (removed free i)) (list_of P.n level mid more) longer second.older first.reaches) second.reaches;
     memory = second.memory;
   }
-  listing_branch depth level more before mid after first (Listing.Full all) second = second
+  listing_branch depth level more before mid after first (Err full) second = second
 
 -- what is left of the core cannot be kept beside it
 core_had : (P : Problem) (low core : ℕ → Bool) (i : ℕ) → Unkept P (either low core) → Unkept P (either (added low i) (removed core i))
@@ -214,14 +215,14 @@ pub record Branching (P : Problem) (low free : ℕ → Bool) (k depth level : �
   pub unkept : Unkept P (either had core)
   pub fewer : count rest 64 ≤ count free 64
   pub as_many : length work ≡ length before
-  pub whole : (after : List ℕ) (r : Listing) → ListingIs P had (either had rest) listed depth level work after r → ListingIs P low (either low free) k depth level before after r
+  pub whole : (after : List ℕ) (r : Result ℕ Full) → ListingIs P had (either had rest) listed depth level work after r → ListingIs P low (either low free) k depth level before after r
 
 module _ {P : Problem} {low free : ℕ → Bool} {k depth level : ℕ} {before : List ℕ} {core had rest : ℕ → Bool} {listed : ℕ} {work : List ℕ}
     (at : Branching P low free k depth level before core had rest listed work) where
   -- no member of the core is left
   pub branching_done : core ≡ nothing → ListedMore P low (either low free) k depth level before work listed
   branching_done empty =
-      at.whole work (Listing.Room listed)
+      at.whole work (Ok listed)
       (listing_same P had (either had rest) depth level at.lists at.memory (reaches_unkept P had core (either had rest) (list_of P.n level work listed) empty at.unkept))
 
   module _ (i : ℕ) (here : core i ≡ true) where

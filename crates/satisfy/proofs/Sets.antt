@@ -8,16 +8,16 @@ use native.Mathlib.Decide.{ℕ_discrete}
 use native.Mathlib.Omega.{arith}
 use lib.Dec.{eqb}
 use borrow.Author.Tests.{ne_eqb}
+use Rattle.std.specs.Prelude.{Option, Some, None}
 use Rattle.semantics.specs.Structure.{Structure}
-use Rattle.sets.specs.Set.{member, nothing, removed}
+use Rattle.sets.specs.Set.{nothing, removed}
 use Rattle.table.specs.declared.entry.Entry.{Entry}
 use Rattle.table.specs.Formulas.{depth_at}
 use Rattle.semantics.specs.Answer.{Answers}
 use Rattle.tableau.specs.Wants.{Sat}
 use Rattle.sets.proofs.Tests.{both_parts}
 use Rattle.wants.specs.declared.Wants.{Wants}
-use Rattle.wants.specs.declared.Outcome.{Outcome}
-use Rattle.wants.specs.Outcome.{MeetsW, SettledW, Asked, Taken, Refuted}
+use Rattle.wants.specs.Outcome.{NothingWanted, MeetsW, SettledW, Asked, Taken, Refuted}
 use Rattle.cases.specs.World.{SatW}
 use Rattle.promises.proofs.Promises.{empty_settled}
 use Rattle.satisfy.specs.Sets.{SetAsked, Taking, TakenIs, SetsAsked, Settling, SettlingIs}
@@ -48,39 +48,38 @@ module _ (entry : ℕ → Entry) (n : ℕ) (b : Bool) (set : ℕ → Bool) (w : 
       within = λ j r. taking.within j (both_parts true (not (eqb j i)) (rest j) r).1;
     }
 
-    pub taking_clash : Refuted entry b i v → TakenIs entry n b set w Outcome.Clash
+    pub taking_clash : Refuted entry b i v → TakenIs entry n b set w None
     taking_clash refuted s u m so = refuted s u (taking.meets s u m so) (so i (taking.within i here))
 
   pub taking_asked : {rest : ℕ → Bool} {v : Wants} → SetAsked entry n set w → Taking entry n b set rest w v → (i : ℕ) → rest i ≡ true → Asked entry n i v
   taking_asked asked taking i here = record { formed = asked.formed; few = asked.few; inside = asked.below i (taking.within i here); settled = taking.settled }
 
 -- nothing is wanted
-module _ (w : Wants) (y : member w.yes ≡ nothing) (o : member w.no ≡ nothing) where
-  pub none_met : (entry : ℕ → Entry) (s : Structure) (u : ℕ) → MeetsW entry s u w
-  none_met entry s u = rw (y, o) (record { as_wanted = elim [ true ↦ λ i h. absurd (false≢true h) | false ↦ λ i h. absurd (false≢true h) ] })
+pub none_met : {w : Wants} → NothingWanted w → (entry : ℕ → Entry) (s : Structure) (u : ℕ) → MeetsW entry s u w
+none_met none entry s u = rw (none.yes, none.no) (record { as_wanted = elim [ true ↦ λ i h. absurd (false≢true h) | false ↦ λ i h. absurd (false≢true h) ] })
 
 module _ (entry : ℕ → Entry) (n : ℕ) (yes no : ℕ → Bool) (depth : ℕ) (asked : SetsAsked entry n yes no depth) where
-  pub first_asked : (w : Wants) → member w.yes ≡ nothing → member w.no ≡ nothing → member w.pending ≡ nothing → SetAsked entry n yes w
-  first_asked w y o p = record { formed = asked.formed; few = asked.few; below = asked.below true; settled = rw (y, o, p) (empty_settled entry n) }
+  pub first_asked : {w : Wants} → NothingWanted w → SetAsked entry n yes w
+  first_asked none = record { formed = asked.formed; few = asked.few; below = asked.below true; settled = rw (none.yes, none.no, none.pending) (empty_settled entry n) }
 
   pub second_asked : {v : Wants} → SettledW entry n v → SetAsked entry n no v
   second_asked settled = record { formed = asked.formed; few = asked.few; below = asked.below false; settled = settled }
 
-  module _ (w : Wants) (y : member w.yes ≡ nothing) (o : member w.no ≡ nothing) where
-    pub first_clash : TakenIs entry n true yes w Outcome.Clash → Sat entry yes no → ⊥
-    first_clash clash sat = clash sat.structure sat.world (none_met w y o entry _ _) (λ i h. sat.meets.as_wanted true i h)
+  module _ {w : Wants} (none : NothingWanted w) where
+    pub first_clash : TakenIs entry n true yes w None → Sat entry yes no → ⊥
+    first_clash clash sat = clash sat.structure sat.world (none_met none entry _ _) (λ i h. sat.meets.as_wanted true i h)
 
     module _ {v : Wants} (first : Taking entry n true yes nothing w v) where
       first_met : (sat : Sat entry yes no) → MeetsW entry sat.structure sat.world v
-      first_met sat = first.meets _ _ (none_met w y o entry _ _) (λ i h. sat.meets.as_wanted true i h)
+      first_met sat = first.meets _ _ (none_met none entry _ _) (λ i h. sat.meets.as_wanted true i h)
 
-      pub both_settled : (r : Outcome) → TakenIs entry n false no v r → SettlingIs entry n yes no depth r
-      both_settled (Outcome.Settled u) second = record {
+      pub both_settled : (r : Option Wants) → TakenIs entry n false no v r → SettlingIs entry n yes no depth r
+      both_settled (Some u) second = record {
         ready = record {
           formed = asked.formed;
           few = asked.few;
           settled = second.settled;
-          shallow = second.shallow depth (asked.shallow false) (first.shallow depth (asked.shallow true) (rw (y, o) (elim [ true ↦ λ i h. absurd (false≢true h) | false ↦ λ i h. absurd (false≢true h) ])));
+          shallow = second.shallow depth (asked.shallow false) (first.shallow depth (asked.shallow true) (rw (none.yes, none.no) (elim [ true ↦ λ i h. absurd (false≢true h) | false ↦ λ i h. absurd (false≢true h) ])));
           pending_below = λ i h. let (b, want, k) = second.settled.splits i h in omega (arith, second.settled.below b i want, asked.few);
         };
         sound = λ sat. record {
@@ -101,7 +100,7 @@ module _ (entry : ℕ → Entry) (n : ℕ) (yes no : ℕ → Bool) (depth : ℕ)
           meets = second.meets _ _ (first_met sat) (λ i h. sat.meets.as_wanted false i h);
         };
       }
-      both_settled Outcome.Clash clash = λ sat. clash sat.structure sat.world (first_met sat) (λ i h. sat.meets.as_wanted false i h)
+      both_settled None clash = λ sat. clash sat.structure sat.world (first_met sat) (λ i h. sat.meets.as_wanted false i h)
 
 pub settling_answer : {entry : ℕ → Entry} {n depth : ℕ} {yes no : ℕ → Bool} {v : Wants} → Settling entry n yes no depth v
     → (r : Bool) → Answers r (SatW entry v) → Answers r (Sat entry yes no)

@@ -1,5 +1,5 @@
 -- What the functions that call each other ask of lists of sets of promises, and answer: all the largest, or some.
-use Rattle.std.specs.Prelude.{◌≡◌, Bool, true, List, ℕ, ◌-◌, ◌<◌, length, take}
+use Rattle.std.specs.Prelude.{◌≡◌, Bool, true, List, Result, Ok, Err, ℕ, ◌-◌, ◌<◌, length, take}
 use Rattle.sets.specs.declared.Set.{Set}
 use Rattle.sets.specs.Set.{either, Within}
 use Rattle.tableau.specs.Counting.{Row}
@@ -7,7 +7,7 @@ use Rattle.tableau.specs.Search.{Problem, Asks, FitRow, Solvable}
 use Rattle.tableau.specs.Listed.{In}
 use Rattle.listed.specs.Codes.{Inside}
 use Rattle.cases.specs.Levels.{Roomy, Remembers}
-use Rattle.promises.specs.declared.listing.Listing.{Listing}
+use Rattle.promises.specs.declared.listing.Full.{Full}
 use Rattle.promises.specs.Promise.{Promising}
 use Rattle.promises.specs.Listing.{list_of, Lists, FitList}
 use Rattle.satisfy.specs.declared.answers.Guess.{Guess}
@@ -40,9 +40,9 @@ module _ (P : Problem) where
     pub reaches : Reaches low high (list_of P.n level after more)
     pub memory : Remembers P.entry depth level after
 
-  abbrev pub ListingIs : (low high : ℕ → Bool) (k depth level : ℕ) (before after : List ℕ) → Listing → Type 0
-  ListingIs low high k depth level before after (Listing.Room more) = ListedMore low high k depth level before after more
-  ListingIs low high k depth level before after (Listing.Full all) = FitList P all depth level after
+  abbrev pub ListingIs : (low high : ℕ → Bool) (k depth level : ℕ) (before after : List ℕ) → Result ℕ Full → Type 0
+  ListingIs low high k depth level before after (Ok more) = ListedMore low high k depth level before after more
+  ListingIs low high k depth level before after (Err full) = FitList P full.listed depth level after
 
   -- `low` and `free` cannot be kept together
   pub record CoreAsked (low free : ℕ → Bool) (depth level : ℕ) (work : List ℕ) : Type 0 where

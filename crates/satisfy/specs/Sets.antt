@@ -1,5 +1,5 @@
 -- The question through two sets: is there a world where every entry of one is true and every entry of the other false.
-use Rattle.std.specs.Prelude.{◌≡◌, Bool, true, false, List, ℕ, ◌<◌, ◌≤◌, length}
+use Rattle.std.specs.Prelude.{◌≡◌, Bool, true, false, Option, Some, None, List, ℕ, ◌<◌, ◌≤◌, length}
 use Rattle.semantics.specs.Structure.{Structure}
 use Rattle.sets.specs.Set.{nothing, Within}
 use Rattle.table.specs.declared.entry.Entry.{Entry}
@@ -7,7 +7,6 @@ use Rattle.table.specs.Formulas.{depth_at}
 use Rattle.table.specs.Formed.{WellFormed}
 use Rattle.tableau.specs.Wants.{truth_at, wanted, Sat}
 use Rattle.wants.specs.declared.Wants.{Wants}
-use Rattle.wants.specs.declared.Outcome.{Outcome}
 use Rattle.wants.specs.Outcome.{wanted_w, GrowsW, MeetsW, SettledW}
 use Rattle.cases.specs.World.{SatW, Ready}
 use Rattle.cases.specs.Levels.{Roomy, Remembers}
@@ -36,9 +35,9 @@ module _ (entry : ℕ → Entry) where
       pub within : Within rest set
 
     -- the outcome of wanting a whole set to be b besides
-    abbrev pub TakenIs : Bool → (ℕ → Bool) → Wants → Outcome → Type 0
-    TakenIs b set w (Outcome.Settled v) = Taking b set nothing w v
-    TakenIs b set w Outcome.Clash = (s : Structure) (u : ℕ) → MeetsW entry s u w → AllSo b set s u → ⊥
+    abbrev pub TakenIs : Bool → (ℕ → Bool) → Wants → Option Wants → Type 0
+    TakenIs b set w (Some v) = Taking b set nothing w v
+    TakenIs b set w None = (s : Structure) (u : ℕ) → MeetsW entry s u w → AllSo b set s u → ⊥
 
     -- the two sets: their entries are below n and no deeper than the depth
     pub record SetsAsked (yes no : ℕ → Bool) (depth : ℕ) : Type 0 where
@@ -53,9 +52,9 @@ module _ (entry : ℕ → Entry) where
       pub sound : SatW entry v → Sat entry yes no
       pub complete : Sat entry yes no → SatW entry v
 
-    abbrev pub SettlingIs : (ℕ → Bool) → (ℕ → Bool) → ℕ → Outcome → Type 0
-    SettlingIs ts fs depth (Outcome.Settled v) = Settling ts fs depth v
-    SettlingIs ts fs depth Outcome.Clash = Sat entry ts fs → ⊥
+    abbrev pub SettlingIs : (ℕ → Bool) → (ℕ → Bool) → ℕ → Option Wants → Type 0
+    SettlingIs ts fs depth (Some v) = Settling ts fs depth v
+    SettlingIs ts fs depth None = Sat entry ts fs → ⊥
 
     pub record QuestionAsked (yes no : ℕ → Bool) (depth level : ℕ) (work : List ℕ) : Type 0 where
       pub sets : SetsAsked yes no depth

@@ -9,8 +9,8 @@ use Prim.Native.Nat.{ℕ, suc, ◌+◌, ◌<◌, ◌≤◌}
 use native.Mathlib.Nat.{add-zero}
 use native.Mathlib.Decide.{ℕ_discrete}
 use native.Mathlib.Omega.{arith}
-use lib.ListN.{length, get_or, set, length-set}
-use lib.Seq.{get_or-set_same, get_or-set_other}
+use lib.ListN.{length, get_or}
+use Rattle.std.specs.List.{SwappedAt}
 use Rattle.sets.specs.declared.Set.{Set}
 use Rattle.semantics.specs.Answer.{Answers}
 use Rattle.tableau.specs.Search.{Slot, Problem, Extension}
@@ -31,18 +31,8 @@ extension_moved : {P : Problem} {list : List ℕ} {slots : List Slot} (other : L
 extension_moved other listed (done met kept) = ext_done met kept other
 extension_moved other listed (some {b = b} m ok e) = ext_inserted other (listed b (inl refl)) tt (extension_moved other (λ c here. listed c (inr here)) e)
 
-pub swapped_made : (words : List ℕ) (i j x y : ℕ) → i < length words → j < length words → x ≡ get_or words i 0 → y ≡ get_or words j 0
-    → Swapped words i j (set (set words i y) j x)
-swapped_made words i j x y i-inside j-inside x-is y-is =
-    let once = set words i y in
-    let second : get_or (set once j x) j 0 ≡ x = get_or-set_same once j x 0 (simp length-set (omega arith)) in
-    record {
-      first = by_cases (ℕ_discrete i j)
-          (λ (e : i ≡ j). ap (λ (l : ℕ). get_or (set once j x) l 0) e ∙ second ∙ x-is ∙ ap (λ (l : ℕ). get_or words l 0) e)
-          (λ (ne : ¬ (i ≡ j)). get_or-set_other once j i x 0 ne ∙ get_or-set_same words i y 0 i-inside ∙ y-is);
-      second = second ∙ x-is;
-      elsewhere = λ l not-i not-j. get_or-set_other once j l x 0 not-j ∙ get_or-set_other words i l y 0 not-i;
-    }
+pub swapped_made : {before after : List ℕ} {i j : ℕ} → SwappedAt before after i j → Swapped before i j after
+swapped_made s = record { first = s.0 0; second = s.1 0; elsewhere = λ l not-i not-j. s.2 l 0 not-i not-j }
 
 module _ {before after : List ℕ} {at j k : ℕ} (few : j < k) where
   swapped_listed : Swapped before at (at + j) after → (c : ℕ) → In c (codes_from before at k) → In c (codes_from after at k)

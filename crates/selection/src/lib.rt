@@ -10,12 +10,11 @@ ghost use Rattle.counting.specs.Question.{problem_of};
 ghost use Rattle.counting.specs.Stack.{slots_of};
 ghost use Rattle.listed.specs.Codes.{codes_from};
 ghost use Rattle.relaxing.specs.Relaxing.{Relaxing};
-ghost use Rattle.selection.specs.Selecting.{ListAsked, SolvedIs, Selecting, Varying, Between, Swapped, Selected, Tried, Varied};
+ghost use Rattle.selection.specs.Selecting.{ListAsked, SolvedIs, Selecting, Varying, Between, Selected, Tried, Varied};
 
 use counting::question::Question;
 use counting::{bounds, stack};
-use numbers::min;
-use packed::word_at;
+use packed::item_or;
 use relaxing::Relaxed;
 use sets::Set;
 use weights::range::spans;
@@ -36,7 +35,7 @@ pub fn solved(
 }
 
 // Whether copies of the k listed sets from a place on make the slots a solution.
-#[cycle(branch_fall_rise_select_tried_vary)]
+#[cycle(select)]
 #[tactic(auto, using(crate::proofs::Selecting::none_selected))]
 fn select(
     entries: &[u64],
@@ -63,17 +62,6 @@ fn select(
     }
 }
 
-// Exchanges two words.
-fn swap(words: &mut [u64], i: usize, j: usize)
-    requires { (i < length words.old) × (j < length words.old) }
-    ensures { Swapped words.old i j words.new }
-{
-    let x = word_at(words, i);
-    let y = word_at(words, j);
-    words[i] = y;
-    words[j] = x;
-}
-
 // A number if it is in range, else 0.
 fn within(j: usize, k: usize) -> usize
     ensures { result ≤ k }
@@ -98,14 +86,11 @@ fn spanned(
     ensures { result ≡ true
         → Between (problem_of entries.now q) (slots_of words.now slots) (code b) low (suc high) (codes_from words.now at k) → ⊥ }
 {
-    if words.len() - at - k < 64 {
-        return false;
-    }
-    spans(entries, q, words, at, k, slots, at + k, b, low, high)
+    64 <= words.len() - at - k && spans(entries, q, words, at, k, slots, at + k, b, low, high)
 }
 
 // The same, of the set at a place and the k sets behind it: set j of these is taken first, and so many copies of it.
-#[cycle(branch_fall_rise_select_tried_vary)]
+#[cycle(select)]
 fn branch(
     entries: &[u64],
     q: Question,
@@ -121,14 +106,14 @@ fn branch(
     ensures { Selected (problem_of entries.now q) words.old at (suc k) slots result words.new }
 {
     let other = at + within(j, k);
-    swap(words, at, other);
+    words.swap(at, other);
     let found = vary(entries, q, all, words, at, k, slots, first);
-    swap(words, at, other);
+    words.swap(at, other);
     found
 }
 
 // The same, of the set at a place and the k sets behind it: so many copies of it come first, then more, then less.
-#[cycle(branch_fall_rise_select_tried_vary)]
+#[cycle(select)]
 fn vary(
     entries: &[u64],
     q: Question,
@@ -142,17 +127,15 @@ fn vary(
     requires { Selecting (problem_of entries.now q) all words.old at (suc k) slots }
     ensures { Selected (problem_of entries.now q) words.old at (suc k) slots result words.new }
 {
-    let b = Set::of_code(word_at(words, at));
+    let b = Set::of_code(item_or(words, at, 0));
     let most = bounds::useful(entries, q, b, words, slots);
-    let start = min(first, most);
-    if rise(entries, q, all, words, at + 1, k, slots, b, start, most) {
-        return true;
-    }
-    fall(entries, q, all, words, at + 1, k, slots, b, start)
+    let start = first.min(most);
+    rise(entries, q, all, words, at + 1, k, slots, b, start, most)
+        || fall(entries, q, all, words, at + 1, k, slots, b, start)
 }
 
 // With so many copies of the set b or more, up to the most, and copies of the k listed sets from a place on.
-#[cycle(branch_fall_rise_select_tried_vary)]
+#[cycle(select)]
 fn rise(
     entries: &[u64],
     q: Question,
@@ -168,21 +151,19 @@ fn rise(
     requires { Varying (problem_of entries.now q) all words.old at k slots (code b) most }
     ensures { Varied (problem_of entries.now q) words.old at k slots (code b) start (suc most) result words.new }
 {
-    let mut m = start;
-    while m <= most {
+    for m in start..=most {
         if tried(entries, q, all, words, at, k, slots, b, m) {
             return true;
         }
         if spanned(entries, q, words, at, k, slots, b, m, most) {
             return false;
         }
-        m += 1;
     }
     false
 }
 
 // With fewer copies of the set b, down to none.
-#[cycle(branch_fall_rise_select_tried_vary)]
+#[cycle(select)]
 fn fall(
     entries: &[u64],
     q: Question,
@@ -197,9 +178,7 @@ fn fall(
     requires { Varying (problem_of entries.now q) all words.old at k slots (code b) end }
     ensures { Varied (problem_of entries.now q) words.old at k slots (code b) 0 end result words.new }
 {
-    let mut m = end;
-    while 0 < m {
-        m -= 1;
+    for m in (0..end).rev() {
         if tried(entries, q, all, words, at, k, slots, b, m) {
             return true;
         }
@@ -211,7 +190,7 @@ fn fall(
 }
 
 // With m copies of the set b.
-#[cycle(branch_fall_rise_select_tried_vary)]
+#[cycle(select)]
 fn tried(
     entries: &[u64],
     q: Question,

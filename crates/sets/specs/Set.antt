@@ -1,11 +1,7 @@
 -- A set as the test of its members, and what each operation makes of such tests.
-use Rattle.std.specs.Prelude.{Bool, true, false, not, ◌&&◌, ◌||◌, ◌≡◌, ℕ, ◌<◌, ◌≤◌, eqb}
+use Rattle.std.specs.Prelude.{Option, Some, None, Bool, true, false, not, ◌&&◌, ◌||◌, ◌≡◌, ℕ, ◌<◌, ◌≤◌, eqb}
 use Rattle.sets.specs.Word.{bit_at, Greatest}
 use Rattle.sets.specs.declared.Set.{Set}
-use Rattle.sets.specs.declared.Highest.{Highest}
-use Rattle.sets.specs.declared.Highest.TheVariants.{At, Nothing}
-use Rattle.sets.specs.declared.Below.{Below}
-use Rattle.sets.specs.declared.Below.TheVariants.{At as Next, Nothing as Last}
 
 -- is the number in the set
 unfoldable pub member : Set → ℕ → Bool
@@ -36,9 +32,9 @@ abbrev pub but_not : (ℕ → Bool) → (ℕ → Bool) → ℕ → Bool
 but_not p q j = p j && not (q j)
 
 -- the answer is right: the greatest number of p, or that there is none
-abbrev pub HighestOf : (ℕ → Bool) → Highest → Type 0
-HighestOf p (At i) = Greatest p i
-HighestOf p Nothing = p ≡ nothing
+abbrev pub HighestOf : (ℕ → Bool) → Option ℕ → Type 0
+HighestOf p (Some i) = Greatest p i
+HighestOf p None = p ≡ nothing
 
 -- every number of p is one of q
 abbrev pub Within : (ℕ → Bool) → (ℕ → Bool) → Type 0
@@ -55,6 +51,6 @@ pub record NextBelow (p : ℕ → Bool) (b r : ℕ) : Type 0 where
   pub greatest : (x : ℕ) → Within (bit_at x) p → x < b → x ≤ r
 
 -- the answer is right: the set that comes next below the code b, or that no code is smaller
-abbrev pub BelowOf : (ℕ → Bool) → ℕ → Below → Type 0
-BelowOf p b (Next s) = NextBelow p b (code s)
-BelowOf p b Last = b ≡ 0
+abbrev pub BelowOf : (ℕ → Bool) → ℕ → Option Set → Type 0
+BelowOf p b (Some s) = NextBelow p b (code s)
+BelowOf p b None = b ≡ 0

@@ -6,23 +6,9 @@ ghost use Rattle.semantics.specs.Count.{count};
 ghost use Rattle.sets.specs.Set.{member, nothing, added, removed, either, both, but_not, HighestOf, Within, code, BelowOf};
 
 // Bit i is set where i is in the set.
-#[derive(Clone, Copy)]
+#[derive(Clone, Copy, Debug, PartialEq, Eq)]
 pub struct Set {
     pub bits: u64,
-}
-
-// The greatest number of a set, if it has any.
-#[derive(Clone, Copy)]
-pub enum Highest {
-    At(usize),
-    Nothing,
-}
-
-// The set that comes next below another, if any does.
-#[derive(Clone, Copy)]
-pub enum Below {
-    At(Set),
-    Nothing,
 }
 
 impl Set {
@@ -45,8 +31,7 @@ impl Set {
     pub fn contains(self, i: usize) -> bool
         ensures { result ≡ member self i }
     {
-        let bits = self.bits;
-        if i < 64 { (bits >> i) & 1 == 1 } else { false }
+        i < 64 && (self.bits >> i) & 1 == 1
     }
 
     // The set with i.
@@ -54,9 +39,8 @@ impl Set {
         requires { i < 64 }
         ensures { member result ≡ added (member self) i }
     {
-        let bits = self.bits;
         Set {
-            bits: bits | (1 << i),
+            bits: self.bits | (1 << i),
         }
     }
 
@@ -64,12 +48,11 @@ impl Set {
     pub fn without(self, i: usize) -> Set
         ensures { member result ≡ removed (member self) i }
     {
-        let bits = self.bits;
         if 64 <= i {
             self
         } else {
             Set {
-                bits: bits & !(1 << i),
+                bits: self.bits & !(1 << i),
             }
         }
     }
@@ -78,77 +61,75 @@ impl Set {
     pub fn union(self, other: Set) -> Set
         ensures { member result ≡ either (member self) (member other) }
     {
-        let a = self.bits;
-        let b = other.bits;
-        Set { bits: a | b }
+        Set {
+            bits: self.bits | other.bits,
+        }
     }
 
     // The numbers of both sets.
     pub fn intersection(self, other: Set) -> Set
         ensures { member result ≡ both (member self) (member other) }
     {
-        let a = self.bits;
-        let b = other.bits;
-        Set { bits: a & b }
+        Set {
+            bits: self.bits & other.bits,
+        }
     }
 
     // The numbers of this set that are not in the other.
     pub fn minus(self, other: Set) -> Set
         ensures { member result ≡ but_not (member self) (member other) }
     {
-        let a = self.bits;
-        let b = other.bits;
-        Set { bits: a & !b }
+        Set {
+            bits: self.bits & !other.bits,
+        }
     }
 
     // Has the set no numbers?
     pub fn is_empty(self) -> bool
         ensures { (result ≡ true) ↔ (member self ≡ nothing) }
     {
-        let bits = self.bits;
-        bits == 0
+        self.bits == 0
     }
 
     // How many numbers are in the set.
+    #[tactic(auto, using(crate::proofs::Words::ones_count), unfolding(crate::specs::Set::member))]
     pub fn len(self) -> u32
         ensures { result ≡ count (member self) 64 }
     {
-        let bits = self.bits;
-        u64::count_ones(bits)
+        self.bits.count_ones()
     }
 
     // How many numbers are in both sets.
     pub fn common(self, other: Set) -> u32
         ensures { result ≡ count (both (member self) (member other)) 64 }
     {
-        let a = self.bits;
-        let b = other.bits;
-        u64::count_ones(a & b)
+        (self.bits & other.bits).count_ones()
     }
 
     // The greatest number of the set: as many places below the top as there are zeros above its bit.
-    pub fn highest(self) -> Highest
+    pub fn highest(self) -> Option<usize>
         ensures { HighestOf (member self) result }
     {
-        let bits = self.bits;
-        if bits == 0 {
-            Highest::Nothing
+        if self.bits == 0 {
+            None
         } else {
-            Highest::At((63 - u64::leading_zeros(bits)) as usize)
+            Some((63 - self.bits.leading_zeros()) as usize)
         }
     }
 
     // The set of the greatest number alone.
+    #[tactic(auto, using(crate::proofs::Tests::both_parts))]
     pub fn highest_alone(self) -> Set
         ensures { Within (member result) (member self) }
     {
-        let Highest::At(i) = self.highest() else {
+        let Some(i) = self.highest() else {
             return self;
         };
         self.minus(self.without(i))
     }
 
     // The same, of those that come first, if there are any.
+    #[tactic(auto, using(crate::proofs::Tests::both_parts))]
     pub fn foremost(self, first: Set) -> Set
         ensures { Within (member result) (member self) }
     {
@@ -160,16 +141,16 @@ impl Set {
     }
 
     // Of the sets within another one, as this set is, the one that comes next below it in the order of their codes.
-    pub fn below(self, within: Set) -> Below
+    pub fn below(self, within: Set) -> Option<Set>
         requires { Within (member self) (member within) }
         ensures { BelowOf (member within) (code self) result }
     {
-        let b = self.bits;
-        let c = within.bits;
-        if b == 0 {
-            Below::Nothing
+        if self.bits == 0 {
+            None
         } else {
-            Below::At(Set { bits: (b - 1) & c })
+            Some(Set {
+                bits: (self.bits - 1) & within.bits,
+            })
         }
     }
 

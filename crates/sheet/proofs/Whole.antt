@@ -4,6 +4,8 @@ use Rattle.std.proofs.lemmas.Bool.{cases_lt}
 use Rattle.std.proofs.lemmas.Bool.Decides.{nat_tests}
 use Rattle.std.proofs.lemmas.List.{length-take-le, take_all}
 use Rattle.std.specs.declared.option.Option.{Option}
+use Rattle.faults.specs.declared.Fault.{Fault}
+use Rattle.std.specs.Prelude.{Result}
 use Rattle.sheet.specs.declared.Sheet.{Sheet}
 use Rattle.sheet.specs.Sheet.{shaped, SheetIs}
 
@@ -11,7 +13,7 @@ use Rattle.sheet.specs.Sheet.{shaped, SheetIs}
 too_long : (input : List ℕ) → 259 < length input → shaped input ≡ false
 too_long input long = grind (arith, nat_tests)
 
-front_told : (input : List ℕ) (sheet : Sheet) → SheetIs (take 260 input) sheet → SheetIs input sheet
+front_told : (input : List ℕ) (sheet : Result Sheet Fault) → SheetIs (take 260 input) sheet → SheetIs input sheet
 front_told input sheet told =
     elim (cases_lt 260 (length input)) [
       | inl longer ↦
@@ -21,7 +23,7 @@ front_told input sheet told =
     ]
 
 -- what was read is as much of the known input as the room takes
-pub read_told : (known : Option (List ℕ)) (room : List ℕ) (n : ℕ) (sheet : Sheet) → length room ≡ 260
+pub read_told : (known : Option (List ℕ)) (room : List ℕ) (n : ℕ) (sheet : Result Sheet Fault) → length room ≡ 260
     → IfSome known (λ input. take n room ≡ take (length room) input) → SheetIs (take n room) sheet → IfSome known (λ input. SheetIs input sheet)
 read_told None room n sheet whole front told = tt
 read_told (Some input) room n sheet whole front told =

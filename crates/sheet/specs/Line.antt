@@ -1,10 +1,10 @@
 -- The line that the mark sheet prints, byte by byte in ASCII. Document 01, "The mark sheet".
-use Rattle.std.specs.Prelude.{◌≡◌, cond, List, [], ◌∷◌, ◌++◌, ℕ, ◌+◌, ◌/◌, ◌%◌, ◌≤◌, ltb, take}
+use Rattle.std.specs.Prelude.{Result, Ok, Err, cond, List, [], ◌∷◌, ◌++◌, ℕ, ◌+◌, ◌/◌, ◌%◌, ltb}
 use Rattle.semantics.specs.Count.{bit}
+use Rattle.faults.specs.declared.Fault.{Fault}
 use Rattle.faults.specs.Verdict.{number_of as fault_number}
 use Rattle.mark.specs.Mark.{number_of as mark_number}
 use Rattle.sheet.specs.declared.Sheet.{Sheet}
-use Rattle.sheet.specs.declared.text.Line.{Line}
 
 -- a number below 100 in decimal
 abbrev pub decimal : ℕ → List ℕ
@@ -25,11 +25,6 @@ filled_text p q n =
     ++ decimal n
     ++ (10 ∷ [])
 
-abbrev pub text_of : Sheet → List ℕ
-text_of (Sheet.Filled p q mark) = filled_text (bit p) (bit q) (mark_number mark)
-text_of (Sheet.Refused f) = refused_text (fault_number f)
-
--- the first bytes of the line, as many as its length says, are the text
-pub record Holds (text : List ℕ) (line : Line) : Type 0 where
-  pub bytes : take line.length line.bytes ≡ text
-  pub short : line.length ≤ 24
+abbrev pub text_of : Result Sheet Fault → List ℕ
+text_of (Ok sheet) = filled_text (bit sheet.model) (bit sheet.answer) (mark_number sheet.mark)
+text_of (Err f) = refused_text (fault_number f)

@@ -1,15 +1,15 @@
 -- The mark sheet: what its input means and what it says. Document 01, "The mark sheet".
-use Rattle.std.specs.Prelude.{◌≡◌, Bool, cond, ◌&&◌, List, ℕ, ◌+◌, ◌*◌, leb, eqb, length, get_or, take, drop}
+use Rattle.std.specs.Prelude.{Result, Ok, Err, ◌≡◌, Bool, cond, ◌&&◌, List, ℕ, ◌+◌, ◌*◌, leb, eqb, length, get_or, take, drop}
+use Rattle.faults.specs.declared.Fault.{Fault}
 use Rattle.faults.specs.declared.Fault.TheVariants.{TableLength}
-use Rattle.faults.specs.declared.Verdict.TheVariants.{Accepted, Refused}
 use Rattle.semantics.specs.Truth.{Satisfiable}
 use Rattle.table.specs.Entry.{entry_in}
 use Rattle.table.specs.Formulas.{formula_at}
 use Rattle.semantics.specs.Answer.{Answers}
 use Rattle.decision.specs.Call.{pair_verdict}
-use Rattle.mark.specs.declared.Marking.{Marking}
 use Rattle.mark.specs.Mark.{MarkIs}
 use Rattle.sheet.specs.declared.Sheet.{Sheet}
+use Rattle.faults.specs.Verdict.{accepted}
 
 -- the input opens with a byte, the number of entries
 abbrev pub entries : List ℕ → ℕ
@@ -30,24 +30,14 @@ abbrev pub answer_of : List ℕ → ℕ
 answer_of input = get_or input (4 * entries input + 2) 0
 
 -- what the sheet says of two entries of a table, by the mark call that is lent 8,192 words: is the model possible, is the answer, and the mark
-abbrev pub MarkedIs : List ℕ → (model answer : ℕ) → Sheet → Type 0
-MarkedIs bytes model answer (Sheet.Filled p q mark) =
-    (pair_verdict bytes model answer 8192 ≡ Accepted)
-    × Answers p (Satisfiable (formula_at (entry_in bytes) model))
-    × Answers q (Satisfiable (formula_at (entry_in bytes) answer))
-    × MarkIs (formula_at (entry_in bytes) model) (formula_at (entry_in bytes) answer) mark
-MarkedIs bytes model answer (Sheet.Refused f) = pair_verdict bytes model answer 8192 ≡ Refused f
+abbrev pub MarkedIs : List ℕ → (model answer : ℕ) → Result Sheet Fault → Type 0
+MarkedIs bytes model answer (Ok sheet) =
+    (pair_verdict bytes model answer 8192 ≡ accepted)
+    × Answers sheet.model (Satisfiable (formula_at (entry_in bytes) model))
+    × Answers sheet.answer (Satisfiable (formula_at (entry_in bytes) answer))
+    × MarkIs (formula_at (entry_in bytes) model) (formula_at (entry_in bytes) answer) sheet.mark
+MarkedIs bytes model answer (Err f) = pair_verdict bytes model answer 8192 ≡ Err f
 
 -- what it says of an input: 1 for another shape
-abbrev pub SheetIs : List ℕ → Sheet → Type 0
-SheetIs input sheet = cond (shaped input) (MarkedIs (table_of input) (model_of input) (answer_of input) sheet) (sheet ≡ Sheet.Refused TableLength)
-
--- the marking is a refusal
-abbrev pub Refusal : Marking → Type 0
-Refusal (Marking.Refused f) = Unit {0}
-Refusal (Marking.Marked mark) = ⊥
-
--- it is, and the sheet says the same
-abbrev pub RefusalIs : Marking → Sheet → Type 0
-RefusalIs (Marking.Refused f) sheet = sheet ≡ Sheet.Refused f
-RefusalIs (Marking.Marked mark) sheet = ⊥
+abbrev pub SheetIs : List ℕ → Result Sheet Fault → Type 0
+SheetIs input sheet = cond (shaped input) (MarkedIs (table_of input) (model_of input) (answer_of input) sheet) (sheet ≡ Err TableLength)

@@ -3,6 +3,7 @@
 // printed.
 ghost use Rattle.std.specs.Prelude.{◌≡◌, ◌≤◌, length, take, IfOk, OnOk, IfSome};
 ghost use Rattle.std.specs.Io.KnownBytes.{Appends};
+ghost use Rattle.sheet.specs.Line.{text_of};
 ghost use Rattle.sheet.specs.Program.{Prints};
 
 use crate::text::Line;
@@ -31,16 +32,14 @@ pub fn line_for<R: Read>(input: &mut R) -> io::Result<Line>
 {
     let mut room = [0u8; 260];
     let length = read(input, &mut room)?;
-    let sheet = crate::sheet_of(&room[..length]);
-    Ok(crate::text::line_of(sheet))
+    Ok(Line(crate::sheet_of(&room[..length])))
 }
 
-// Prints the first bytes, as many as the length says.
-pub fn print<W: Write>(output: &mut W, bytes: [u8; 24], length: usize) -> io::Result<()>
-    requires { length ≤ 24 }
-    ensures { OnOk result (Appends (W.contents output.old) (W.contents output.new) (take length bytes)) }
+// Prints the line.
+pub fn print<W: Write>(output: &mut W, line: Line) -> io::Result<()>
+    ensures { OnOk result (Appends (W.contents output.old) (W.contents output.new) (text_of line.0)) }
 {
-    output.write_all(&bytes[..length])
+    write!(output, "{line}")
 }
 
 // What fails is said on the standard error.
@@ -52,7 +51,7 @@ pub fn run(rt: &(impl Input + Print + Eprint)) -> io::Result<()> {
             return Err(e);
         }
     };
-    let printed = print(&mut io::writer(rt), line.bytes, line.length);
+    let printed = print(&mut io::writer(rt), line);
     if printed.is_err() {
         eprintln!(rt; "the line cannot be printed")?;
     }

@@ -8,8 +8,7 @@ use lib.Dec.{eqb, leb}
 use lib.ListN.{length}
 use borrow.Author.Tests.{leb-false, eqb-true, not-false}
 use Rattle.faults.specs.declared.Fault.TheVariants.{StructureLength, World, Record as BadRecord}
-use Rattle.faults.specs.declared.Verdict.TheVariants.{Accepted}
-use Rattle.faults.specs.Verdict.{refuse_if}
+use Rattle.faults.specs.Verdict.{accepted, refuse_if}
 use Rattle.faults.proofs.Each.{not_refused, neither, both_accepted, each_accepted}
 use Rattle.structure.specs.declared.record.Record.{Record}
 use Rattle.structure.specs.Record.{record_in, records, worlds_of}
@@ -29,7 +28,7 @@ within r worlds ok = record {
 }
 
 -- each record of an accepted structure has neither fault
-sound : (bytes : List ℕ) → structure_verdict bytes ≡ Accepted → (i : ℕ) → i < records bytes
+sound : (bytes : List ℕ) → structure_verdict bytes ≡ accepted → (i : ℕ) → i < records bytes
     → let r = record_in bytes i in
     (record_faulty r i ≡ false) × (world_faulty r (worlds_of (record_in bytes)) ≡ false)
 unfolding structure_verdict
@@ -40,12 +39,12 @@ sound bytes ok i h =
     let here = both_accepted (refuse_if (record_faulty r i) BadRecord) _ (each_accepted _ (records bytes) all i h) in
     (not_refused (record_faulty r i) BadRecord here.0, not_refused (world_faulty r worlds) World here.1)
 
-pub accepted : (bytes : List ℕ) → structure_verdict bytes ≡ Accepted
+pub accepted_within : (bytes : List ℕ) → structure_verdict bytes ≡ accepted
     → (i : ℕ) → i < records bytes → Within (record_in bytes i) (worlds_of (record_in bytes))
-accepted bytes ok i h = within (record_in bytes i) _ (sound bytes ok i h).1
+accepted_within bytes ok i h = within (record_in bytes i) _ (sound bytes ok i h).1
 
 -- the first record is the header
-pub header_first : (bytes : List ℕ) → structure_verdict bytes ≡ Accepted → 0 < records bytes → (record_in bytes 0).kind ≡ 0
+pub header_first : (bytes : List ℕ) → structure_verdict bytes ≡ accepted → 0 < records bytes → (record_in bytes 0).kind ≡ 0
 header_first bytes ok h =
     let r = record_in bytes 0 in
     let known = (neither (misplaced r 0 || leb 3 r.kind) (zero_bit_set r) (sound bytes ok 0 h).0).0 in

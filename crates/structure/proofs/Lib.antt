@@ -7,5 +7,5 @@ pub mod Stated
 pub mod Masks
 -- drawings with no copies read as before
 pub mod Plain
--- tests of numbers
-pub mod Tests
+-- fields tested together
+pub mod Fields

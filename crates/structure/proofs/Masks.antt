@@ -13,7 +13,6 @@ use lib.Dec.{eqb, ltb}
 use lib.ListN.{length, get_or}
 use borrow.Author.Tests.{eq-eqb, ne_eqb, lt-ltb, le-ltb}
 use Rattle.semantics.specs.Structure.{none, number}
-use Rattle.faults.specs.declared.Verdict.TheVariants.{Accepted}
 use Rattle.sets.specs.Word.{word}
 use Rattle.sets.proofs.Words.{word_ext, word_none, word_one}
 use Rattle.structure.specs.declared.record.Record.{Record}
@@ -23,6 +22,7 @@ use Rattle.structure.specs.Masks.{width_of, height_of, mask_of, stated_by, key_o
 use Rattle.structure.specs.Check.{structure_verdict}
 use Rattle.structure.proofs.Accepted.{Within, header_first}
 use Rattle.structure.proofs.Stated.{some_none, some_word, greatest_level}
+use Rattle.faults.specs.Verdict.{accepted}
 
 -- a key tells which row it is of
 pub key_same : (k k' : Bool) {name name' : ℕ} → name < 256 → name' < 256 → key_of k name ≡ key_of k' name' → (k ≡ k') × (name ≡ name')
@@ -174,7 +174,7 @@ pub gained_none : (r : Record) (worlds levels : ℕ) (places masks : List ℕ) �
 gained_none r worlds levels places masks n1 n2 k name v t placed = rw (word_none {p = stated_by r k name v t} worlds (λ i l. silent r n1 n2 k name v t i)) (sym (or_zero_r _))
 
 -- a header alone states nothing
-pub bare : (bytes : List ℕ) → structure_verdict bytes ≡ Accepted → records bytes ≤ 1 → (k : Bool) (name v t : ℕ) → mask_of (structure_of bytes) k name v t ≡ 0
+pub bare : (bytes : List ℕ) → structure_verdict bytes ≡ accepted → records bytes ≤ 1 → (k : Bool) (name v t : ℕ) → mask_of (structure_of bytes) k name v t ≡ 0
 bare bytes ok one k name v t =
     sym (all_stated bytes k name v t)
     ∙ word_none _ (λ w l. some_none (records bytes) (λ i b.

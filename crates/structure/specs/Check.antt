@@ -2,8 +2,7 @@
 -- with document 02, P7: a link's last two bits are no zero bits.
 use Rattle.std.specs.Prelude.{Bool, true, false, not, ◌&&◌, ◌||◌, List, [], ◌∷◌, ℕ, ◌%◌, eqb, leb, ltb, length, get_or}
 use Rattle.faults.specs.declared.Fault.TheVariants.{StructureLength, World, Record as BadRecord}
-use Rattle.faults.specs.declared.Verdict.{Verdict}
-use Rattle.faults.specs.Verdict.{refuse_if, and_then, each}
+use Rattle.faults.specs.Verdict.{Verdict, refuse_if, and_then, each}
 use Rattle.structure.specs.declared.record.Record.{Record}
 use Rattle.structure.specs.Record.{record_in, records, worlds_of}
 

@@ -1,4 +1,6 @@
 -- The packed structure of document 01, "The drawn build": bytes, records, what they state, and what they are refused for.
+-- the numbers of the kinds of records
+pub mod Kind
 -- bytes to 24-bit words to records
 pub mod Record
 -- records to the structure that they state

@@ -3,8 +3,7 @@
 use Rattle.std.specs.Prelude.{◌≡◌, Bool, not, ◌&&◌, ◌||◌, List, ℕ, ◌<◌, eqb, length}
 use Rattle.semantics.specs.Plain.{Plain}
 use Rattle.faults.specs.declared.Fault.TheVariants.{StructureLength, World, Record as BadRecord}
-use Rattle.faults.specs.declared.Verdict.{Verdict}
-use Rattle.faults.specs.Verdict.{refuse_if, and_then, each}
+use Rattle.faults.specs.Verdict.{Verdict, refuse_if, and_then, each}
 use Rattle.structure.specs.declared.record.Record.{Record}
 use Rattle.structure.specs.Record.{record_in, records, worlds_of}
 use Rattle.structure.specs.Read.{some, states_fact, states_link}

@@ -1,42 +1,37 @@
 // The check of a structure: the faults 6 to 8 of document 01, in its order.
 ghost use Rattle.std.specs.Prelude.{◌≡◌};
-ghost use Rattle.structure.specs.Record.{record_in};
-ghost use Rattle.structure.specs.Check.{record_faulty, world_faulty, record_verdict, records_verdict, structure_verdict};
+ghost use Rattle.structure.specs.Check.{record_faulty, world_faulty, record_verdict, structure_verdict};
 
-use crate::record::Record;
-use crate::{read, record};
-use faults::{Fault, Verdict};
+use crate::read;
+use crate::record::{self, Record, RecordKind};
+use faults::{Fault, Verdict, first_fault};
 
 // The longest structure, in bytes: 1,024 records.
 const MAX_BYTES: usize = 3072;
 
 // Whether record i stands in a wrong place, is of no known kind, or has a zero bit that is 1.
+#[tactic(auto, using(faults::proofs::Tests::tests, crate::proofs::Fields::or_zero))]
 fn is_faulty(r: Record, i: usize) -> bool
     ensures { result ≡ record_faulty r i }
 {
-    let kind = r.kind;
-    if (i == 0) != (kind == 0) {
-        return true;
-    }
-    match kind {
-        0 => r.name | r.to | r.copies != 0,
-        1 => r.to | r.copies != 0,
-        2 => false,
-        _ => true,
+    match RecordKind::of(r.kind) {
+        Some(RecordKind::Header) => i != 0 || r.name | r.to | r.copies != 0,
+        Some(RecordKind::Fact) => i == 0 || r.to | r.copies != 0,
+        Some(RecordKind::Link) => i == 0,
+        None => true,
     }
 }
 
 // Whether a record names a world that is not below the number of worlds.
+#[tactic(auto, using(faults::proofs::Tests::tests))]
 fn is_outside(r: Record, worlds: usize) -> bool
     ensures { result ≡ world_faulty r worlds }
 {
-    let kind = r.kind;
     let world = r.world as usize;
-    let to = r.to as usize;
-    match kind {
-        1 => worlds <= world,
-        2 => worlds <= world || worlds <= to,
-        _ => false,
+    match RecordKind::of(r.kind) {
+        Some(RecordKind::Fact) => worlds <= world,
+        Some(RecordKind::Link) => worlds <= world || worlds <= r.to as usize,
+        Some(RecordKind::Header) | None => false,
     }
 }
 
@@ -45,44 +40,26 @@ fn check_record(r: Record, i: usize, worlds: usize) -> Verdict
     ensures { result ≡ record_verdict r i worlds }
 {
     if is_faulty(r, i) {
-        return Verdict::Refused(Fault::Record);
+        return Err(Fault::Record);
     }
     if is_outside(r, worlds) {
-        return Verdict::Refused(Fault::World);
+        return Err(Fault::World);
     }
-    Verdict::Accepted
-}
-
-// Record by record.
-fn check_records(bytes: &[u8], n: usize) -> Verdict
-    ensures { result ≡ records_verdict (record_in bytes.now) n }
-{
-    let worlds = read::worlds(bytes);
-    let mut i = 0;
-    while i < n {
-        let found = check_record(record::record_at(bytes, i), i, worlds);
-        let Verdict::Accepted = found else {
-            return found;
-        };
-        i += 1;
-    }
-    Verdict::Accepted
+    Ok(())
 }
 
 // Whether a structure is accepted; if not, its first fault in document 01's order.
-#[tactic(auto, using(crate::proofs::Tests::tests), unfolding(crate::specs::Check::structure_verdict))]
+#[tactic(auto, using(faults::proofs::Tests::tests), unfolding(crate::specs::Check::structure_verdict, crate::specs::Read::stated))]
 pub fn check(bytes: &[u8]) -> Verdict
     ensures { result ≡ structure_verdict bytes.now }
 {
     let length = bytes.len();
-    if length == 0 {
-        return Verdict::Refused(Fault::StructureLength);
+    if length == 0 || MAX_BYTES < length || length % 3 != 0 {
+        return Err(Fault::StructureLength);
     }
-    if MAX_BYTES < length {
-        return Verdict::Refused(Fault::StructureLength);
-    }
-    if length % 3 != 0 {
-        return Verdict::Refused(Fault::StructureLength);
-    }
-    check_records(bytes, length / 3)
+    let worlds = read::worlds(bytes);
+    first_fault(
+        length / 3,
+        |i| check_record(record::record_at(bytes, i), i, worlds),
+    )
 }

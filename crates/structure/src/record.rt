@@ -1,5 +1,6 @@
-// Records: the packed 24-bit word, and its fields.
-ghost use Rattle.std.specs.Prelude.{◌≡◌, ◌<◌};
+// Records: the packed 24-bit word, its fields, and the kinds.
+ghost use Rattle.std.specs.Prelude.{◌≡◌, ◌<◌, ◌≤◌, IfSome, IfNone};
+ghost use Rattle.structure.specs.Kind.{kind_number};
 ghost use Rattle.structure.specs.Record.{record_of, triple_in, record_in};
 
 use packed::big_endian;
@@ -30,7 +31,31 @@ impl Record {
     }
 }
 
+// In the order of their numbers, from 0.
+#[derive(Clone, Copy, Debug, PartialEq, Eq)]
+pub enum RecordKind {
+    Header,
+    Fact,
+    Link,
+}
+
+impl RecordKind {
+    // The kind that a packed record names by a number, if there is one.
+    pub fn of(number: u32) -> Option<RecordKind>
+        ensures known { IfSome result (λ kind. number ≡ kind_number kind) }
+        ensures unknown { IfNone result (3 ≤ number) }
+    {
+        match number {
+            0 => Some(RecordKind::Header),
+            1 => Some(RecordKind::Fact),
+            2 => Some(RecordKind::Link),
+            _ => None,
+        }
+    }
+}
+
 // Record i of a structure, packed; 0 past the structure's end.
+#[tactic(auto, unfolding(crate::specs::Record::triple_in))]
 fn triple_at(bytes: &[u8], i: usize) -> u32
     ensures { result ≡ triple_in bytes.now i }
 {

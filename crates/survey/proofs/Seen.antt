@@ -3,6 +3,7 @@ use mathlib.Core.Path.{◌≡◌, refl, sym, ap, ◌∙◌}
 use mathlib.Core.Logic.{◌↔◌}
 use mathlib.Core.Bool.{Bool, true, false, ◌||◌, or-false, or_assoc}
 use mathlib.Core.List.{List, [], ◌∷◌, ◌++◌, append_assoc, append-nil}
+use Rattle.std.specs.Prelude.{Some, None}
 use Prim.Native.Nat.{ℕ, ◌+◌, ◌≤◌}
 use native.Mathlib.Omega.{arith}
 use lib.Dec.{eqb}
@@ -10,6 +11,7 @@ use lib.ListN.{length}
 use borrow.Author.Tests.{eqb-true, eqb-false}
 use Rattle.grammar.specs.declared.Sign.{Sign}
 use Rattle.grammar.specs.declared.lexer.Lexed.{Lexed}
+use Rattle.grammar.specs.declared.lexer.Found.{Found}
 use Rattle.grammar.specs.Text.{Signs}
 use Rattle.grammar.specs.Lexed.{Next, LexedIs}
 use Rattle.grammar.specs.Tree.{Tree, signs}
@@ -18,8 +20,7 @@ use Rattle.grammar.specs.Measure.{over, any_over, weight, entries}
 use Rattle.grammar.specs.Parser.{State, operand, operator, failed, step, run, whole, opens}
 use Rattle.grammar.proofs.Reader.{run_append, settle_opens, ends, tree_of}
 use Rattle.survey.specs.declared.Mode.{Mode}
-use Rattle.survey.specs.declared.Stepped.{Stepped}
-use Rattle.survey.specs.declared.Surveyed.{Surveyed}
+use Rattle.survey.specs.declared.Counted.{Counted}
 use Rattle.survey.specs.Survey.{stepped, at_end, finished, SurveyIs}
 use Rattle.survey.proofs.Stages.{Stage, Leads, leads, alike}
 
@@ -70,55 +71,55 @@ begins_more text at k seen s begins next ss = (
 )
 
 -- what the survey holds is of the signs up to a place
-pub record Seen (text : List ℕ) (at : ℕ) (mode : Mode) (count : ℕ) (big : Bool) : Type 0 where
+pub record Seen (text : List ℕ) (at : ℕ) (mode : Mode) (counted : Counted) : Type 0 where
   pub seen : List Sign
   pub begins : Begins text at seen
   pub stage : Stage (reader seen) mode
-  pub counted : count ≡ entries seen
-  pub bigs : big ≡ any_over seen
+  pub made : counted.entries ≡ entries seen
+  pub bigs : counted.over ≡ any_over seen
   pub inside : at ≤ length text
-  pub few : count ≤ at
+  pub few : counted.entries ≤ at
   pub shallow : mode.depth ≤ at
 
-pub none_seen : (text : List ℕ) → Seen text 0 (record { operand = true; depth = 0 }) 0 false
+pub none_seen : (text : List ℕ) → Seen text 0 (record { operand = true; depth = 0 }) (record { entries = 0; over = false })
 unfolding run opens entries any_over
 none_seen text =
     record {
       seen = [];
       begins = λ ss. (λ p. (ss, refl, p), λ (later, e, p). rw e p);
       stage = (refl, refl);
-      counted = refl;
+      made = refl;
       bigs = refl;
       inside = omega arith;
       few = omega arith;
       shallow = omega arith;
     }
 
-module _ {text : List ℕ} {at : ℕ} {mode : Mode} {count : ℕ} {big : Bool} (h : Seen text at mode count big) where
+module _ {text : List ℕ} {at : ℕ} {mode : Mode} {count : Counted} (h : Seen text at mode count) where
   -- a sign more
-  pub one_more : (s : Sign) (k : ℕ) (more : Bool) (further : Mode) → LexedIs text at (Lexed.Found s k more) → stepped mode s ≡ Stepped.To further
-      → Seen text k further (count + weight s) (big || more)
-  one_more s k more further (sign, is, next, low, high, bigs) e =
+  pub one_more : (f : Found) (further : Mode) → LexedIs text at (Lexed.Found f) → stepped mode f.sign ≡ Some further
+      → Seen text f.next further (record { entries = count.entries + weight f.sign; over = count.over || f.over })
+  one_more f further (sign, is, next, low, high, bigs) e =
       let same = alike mode sign in
-      let to : stepped mode sign ≡ Stepped.To further = sym same.steps ∙ ap (stepped mode) (sym is) ∙ e in
-      let stage : Leads mode.depth (step (reader h.seen) sign) (Stepped.To further) = rw to at (leads (reader h.seen) mode sign h.stage) in
-      let weighs : weight s ≡ weight sign = ap weight is ∙ same.weighs in
+      let to : stepped mode sign ≡ Some further = sym same.steps ∙ ap (stepped mode) (sym is) ∙ e in
+      let stage : Leads mode.depth (step (reader h.seen) sign) (Some further) = rw to at (leads (reader h.seen) mode sign h.stage) in
+      let weighs : weight f.sign ≡ weight sign = ap weight is ∙ same.weighs in
       record {
         seen = h.seen ++ (sign ∷ []);
-        begins = begins_more text at k h.seen sign h.begins next;
+        begins = begins_more text at f.next h.seen sign h.begins next;
         stage = rw (reader_more h.seen sign) stage.0;
-        counted = omega (arith, weighs, h.counted, entries_append h.seen sign);
+        made = omega (arith, weighs, h.made, entries_append h.seen sign);
         bigs = rw (bigs, h.bigs) (sym (over_append h.seen sign));
         inside = high;
-        few = omega (arith, h.few, weight_low s);
+        few = omega (arith, h.few, weight_low f.sign);
         shallow = omega (arith, h.shallow, stage.1);
       }
 
   -- a sign that leads nowhere
-  pub nowhere : (s : Sign) (k : ℕ) (more : Bool) → LexedIs text at (Lexed.Found s k more) → stepped mode s ≡ Stepped.Outside → SurveyIs text Surveyed.Outside
+  pub nowhere : (f : Found) → LexedIs text at (Lexed.Found f) → stepped mode f.sign ≡ None → SurveyIs text None
   unfolding run
-  nowhere s k more (sign, is, next, low, high, bigs) e t fits =
-      let out : stepped mode sign ≡ Stepped.Outside = sym (alike mode sign).steps ∙ ap (stepped mode) (sym is) ∙ e in
+  nowhere f (sign, is, next, low, high, bigs) e t fits =
+      let out : stepped mode sign ≡ None = sym (alike mode sign).steps ∙ ap (stepped mode) (sym is) ∙ e in
       let fails : step (reader h.seen) sign ≡ failed = rw out at (leads (reader h.seen) mode sign h.stage) in
       let (later, e, q) = (h.begins (signs t)).0 fits.signs in
       let (later', e', q') = (next later).0 q in
@@ -145,21 +146,21 @@ module _ {text : List ℕ} {at : ℕ} {mode : Mode} {count : ℕ} {big : Bool} (
 
     -- the operand that was read is the text's tree
     tree : (σ : State) → reader h.seen ≡ σ → Stage σ mode → mode.operand ≡ false → mode.depth ≡ 0
-        → SurveyIs text (Surveyed.Inside count big)
+        → SurveyIs text (Some count)
     tree (operand fs) is stage e none = let z : ◌≡◌ {A = ℕ} 0 1 = cc in absurd (omega arith)
     tree (operator fs t) is stage e none =
         let (grouped, spelt) = tree_of h.seen fs t is (sym stage.1 ∙ none) in
-        (whole 0 fs t, record { signs = rw spelt whole_text; grouped = grouped }, rw spelt h.counted, rw spelt h.bigs)
+        (whole 0 fs t, record { signs = rw spelt whole_text; grouped = grouped }, rw spelt h.made, rw spelt h.bigs)
     tree failed is stage e none = absurd stage
 
-    at_end_is : (waits shut : Bool) → mode.operand ≡ waits → eqb mode.depth 0 ≡ shut → SurveyIs text (at_end waits shut count big)
+    at_end_is : (waits shut : Bool) → mode.operand ≡ waits → eqb mode.depth 0 ≡ shut → SurveyIs text (at_end waits shut count)
     at_end_is true shut e f = λ t fits. let z : ◌≡◌ {A = ℕ} 0 1 = cc (behind_operand t fits).0 in absurd (omega arith)
     at_end_is false true e f = tree (reader h.seen) refl h.stage e (eqb-true _ _ f)
     at_end_is false false e f = λ t fits. eqb-false _ _ f (behind_operand t fits).1
 
   -- no sign follows
-  pub finishes : (lexed : Lexed) → LexedIs text at lexed → ((s : Sign) (k : ℕ) (more : Bool) → lexed ≡ Lexed.Found s k more → ⊥)
-      → SurveyIs text (finished lexed mode count big)
-  finishes (Lexed.Found s k more) is none = absurd (none s k more refl)
+  pub finishes : (lexed : Lexed) → LexedIs text at lexed → ((f : Found) → lexed ≡ Lexed.Found f → ⊥)
+      → SurveyIs text (finished lexed mode count)
+  finishes (Lexed.Found f) is none = absurd (none f refl)
   finishes Lexed.End end none = at_end_is end mode.operand (eqb mode.depth 0) refl refl
   finishes Lexed.Bad bad none = λ t fits. bad _ ((h.begins (signs t)).0 fits.signs).2

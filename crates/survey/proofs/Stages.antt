@@ -2,6 +2,7 @@
 use mathlib.Core.Path.{◌≡◌, refl, sym, ◌∙◌}
 use mathlib.Core.Bool.{true, false}
 use mathlib.Core.List.{List}
+use Rattle.std.specs.Prelude.{Option, Some, None}
 use Prim.Native.Nat.{ℕ, zero, suc, ◌+◌, ◌≤◌}
 use native.Mathlib.Omega.{arith}
 use borrow.Author.Rules.{rules}
@@ -14,7 +15,6 @@ use Rattle.grammar.specs.Measure.{weight, cut}
 use Rattle.grammar.specs.Parser.{Frame, State, operand, operator, failed, closed, step, rest, opens}
 use Rattle.grammar.proofs.Reader.{settle_opens, to_end, to_bracket}
 use Rattle.survey.specs.declared.Mode.{Mode}
-use Rattle.survey.specs.declared.Stepped.{Stepped}
 use Rattle.survey.specs.Survey.{closing, stepped}
 
 -- a state of the reader, as much of it as the survey holds
@@ -24,9 +24,9 @@ Stage (operator fs t) m = (m.operand ≡ false) × (m.depth ≡ opens fs)
 Stage failed m = ⊥
 
 -- where a step from such a depth leads
-abbrev pub Leads : ℕ → State → Stepped → Type 0
-Leads d σ (Stepped.To m) = Stage σ m × (m.depth ≤ d + 1)
-Leads d σ Stepped.Outside = σ ≡ failed
+abbrev pub Leads : ℕ → State → Option Mode → Type 0
+Leads d σ (Some m) = Stage σ m × (m.depth ≤ d + 1)
+Leads d σ None = σ ≡ failed
 
 closes : (fs : List Frame) (t : Tree) (d : ℕ) → d ≡ opens fs → Leads d (closed (rest 0 fs) t) (closing d)
 closes fs t zero e = rw (to_end fs (sym e)) refl

@@ -8,7 +8,7 @@ ghost use Rattle.grammar.specs.Measure.{weight};
 ghost use Rattle.survey.specs.Survey.{Shallow, operand_step, operator_step, stepped, finished, SurveyIs};
 
 use grammar::Sign;
-use grammar::lexer::{Lexed, either, sign_at};
+use grammar::lexer::{Found, Lexed, sign_at};
 
 // Whether an operand comes next, and how many brackets are open.
 #[derive(Clone, Copy)]
@@ -17,18 +17,11 @@ pub struct Mode {
     pub depth: usize,
 }
 
-// Where a sign leads: on, or out of the grammar.
+// What is counted in a text that has a tree: how many entries it makes, and whether one of its numbers is over 255.
 #[derive(Clone, Copy)]
-pub enum Stepped {
-    To(Mode),
-    Outside,
-}
-
-// What a text is: one with a tree, how many entries it makes, and whether one of its numbers is over 255; or outside the grammar.
-#[derive(Clone, Copy)]
-pub enum Surveyed {
-    Inside(usize, bool),
-    Outside,
+pub struct Counted {
+    pub entries: usize,
+    pub over: bool,
 }
 
 // How many entries a sign makes.
@@ -36,95 +29,76 @@ fn entries_of(sign: Sign) -> usize
     ensures { result ≡ weight sign }
 {
     match sign {
-        Sign::Alone(_) => 1,
-        Sign::Before(_) => 1,
-        Sign::Between(_) => 1,
-        Sign::Open => 0,
-        Sign::Close => 0,
+        Sign::Alone(_) | Sign::Before(_) | Sign::Between(_) => 1,
+        Sign::Open | Sign::Close => 0,
     }
 }
 
-// Where a sign leads that comes where an operand is expected.
-fn at_operand(depth: usize, sign: Sign) -> Stepped
+// Where a sign leads that comes where an operand is expected: on, or out of the grammar.
+fn at_operand(depth: usize, sign: Sign) -> Option<Mode>
     requires { Shallow depth }
     ensures { result ≡ operand_step depth sign }
 {
     match sign {
-        Sign::Alone(_) => Stepped::To(Mode {
+        Sign::Alone(_) => Some(Mode {
             operand: false,
-            depth: depth,
+            depth,
         }),
-        Sign::Before(_) => Stepped::To(Mode {
+        Sign::Before(_) => Some(Mode {
             operand: true,
-            depth: depth,
+            depth,
         }),
-        Sign::Between(_) => Stepped::Outside,
-        Sign::Open => Stepped::To(Mode {
+        Sign::Open => Some(Mode {
             operand: true,
             depth: depth + 1,
         }),
-        Sign::Close => Stepped::Outside,
+        Sign::Between(_) | Sign::Close => None,
     }
 }
 
 // Where a sign leads that comes behind an operand.
-fn at_operator(depth: usize, sign: Sign) -> Stepped
+fn at_operator(depth: usize, sign: Sign) -> Option<Mode>
     ensures { result ≡ operator_step depth sign }
 {
     match sign {
-        Sign::Alone(_) => Stepped::Outside,
-        Sign::Before(_) => Stepped::Outside,
-        Sign::Between(_) => Stepped::To(Mode {
+        Sign::Between(_) => Some(Mode {
             operand: true,
-            depth: depth,
+            depth,
         }),
-        Sign::Open => Stepped::Outside,
-        Sign::Close => {
-            if depth == 0 {
-                Stepped::Outside
-            } else {
-                Stepped::To(Mode {
-                    operand: false,
-                    depth: depth - 1,
-                })
-            }
+        Sign::Close if depth != 0 => Some(Mode {
+            operand: false,
+            depth: depth - 1,
+        }),
+        Sign::Alone(_) | Sign::Before(_) | Sign::Open | Sign::Close => None,
+    }
+}
+
+impl Mode {
+    // Where a sign leads from here.
+    fn step(self, sign: Sign) -> Option<Mode>
+        requires { Shallow self.depth }
+        ensures { result ≡ stepped self sign }
+    {
+        if self.operand {
+            at_operand(self.depth, sign)
+        } else {
+            at_operator(self.depth, sign)
         }
     }
 }
 
-fn step(mode: Mode, sign: Sign) -> Stepped
-    requires { Shallow mode.depth }
-    ensures { result ≡ stepped mode sign }
-{
-    if mode.operand {
-        at_operand(mode.depth, sign)
-    } else {
-        at_operator(mode.depth, sign)
-    }
-}
-
-// What the text is where no sign follows: it has a tree if its end is reached behind an operand, with no bracket open.
-fn finish(lexed: Lexed, mode: Mode, entries: usize, over: bool) -> Surveyed
-    ensures { result ≡ finished lexed mode entries over }
+// What is counted in the text where no sign follows: it has a tree if its end is reached behind an operand, with no bracket open.
+fn finish(lexed: Lexed, mode: Mode, counted: Counted) -> Option<Counted>
+    ensures { result ≡ finished lexed mode counted }
 {
     match lexed {
-        Lexed::Found(_, _, _) => Surveyed::Outside,
-        Lexed::Bad => Surveyed::Outside,
-        Lexed::End => {
-            if mode.operand {
-                return Surveyed::Outside;
-            }
-            if mode.depth == 0 {
-                Surveyed::Inside(entries, over)
-            } else {
-                Surveyed::Outside
-            }
-        }
+        Lexed::End if !mode.operand && mode.depth == 0 => Some(counted),
+        Lexed::End | Lexed::Found(_) | Lexed::Bad => None,
     }
 }
 
-// Whether a text has a tree, how many entries it makes, and whether one of its numbers is over 255.
-pub fn survey(text: &[u8]) -> Surveyed
+// What is counted in a text, if it has a tree.
+pub fn survey(text: &[u8]) -> Option<Counted>
     ensures { SurveyIs text.now result }
 {
     let mut at = 0;
@@ -132,20 +106,18 @@ pub fn survey(text: &[u8]) -> Surveyed
         operand: true,
         depth: 0,
     };
-    let mut entries: usize = 0;
-    let mut over = false;
+    let mut counted = Counted {
+        entries: 0,
+        over: false,
+    };
     loop {
         let lexed = sign_at(text, at);
-        let Lexed::Found(sign, next, big) = lexed else {
-            return finish(lexed, mode, entries, over);
+        let Lexed::Found(Found { sign, next, over }) = lexed else {
+            return finish(lexed, mode, counted);
         };
-        let stepped = step(mode, sign);
-        let Stepped::To(further) = stepped else {
-            return Surveyed::Outside;
-        };
-        mode = further;
-        entries += entries_of(sign);
-        over = either(over, big);
+        mode = mode.step(sign)?;
+        counted.entries += entries_of(sign);
+        counted.over |= over;
         at = next;
     }
 }

@@ -13,8 +13,7 @@ use Rattle.semantics.specs.Formula.{Formula, depth, falsum, neg, conj, disj, at_
 use Rattle.semantics.specs.Structure.{Structure}
 use Rattle.semantics.specs.Truth.{truth}
 use Rattle.faults.specs.declared.Fault.TheVariants.{TableLength, Kind, UnusedField, Reference}
-use Rattle.faults.specs.declared.Verdict.TheVariants.{Accepted}
-use Rattle.faults.specs.Verdict.{refuse_if}
+use Rattle.faults.specs.Verdict.{accepted, refuse_if}
 use Rattle.faults.proofs.Each.{not_refused, neither, both_accepted, each_accepted}
 use Rattle.table.specs.declared.entry.Entry.{Entry}
 use Rattle.table.specs.Entry.{entry_in, size}
@@ -65,7 +64,7 @@ module _ {entry : ℕ → Entry} {n : ℕ} (wf : WellFormed entry n) where
       → truth s (formula_at entry i) w ≡ truth_of s w (λ j. truth s (formula_at entry j)) (entry i)
   truth_rule s w i h = ap (λ (φ : Formula). truth s φ w) (formula_rule i h) ∙ truth_formula_of s w (formula_at entry) (entry i)
 
-entry_accepted : (e : Entry) (i : ℕ) → entry_verdict e i ≡ Accepted → Fitting e i
+entry_accepted : (e : Entry) (i : ℕ) → entry_verdict e i ≡ accepted → Fitting e i
 entry_accepted e i ok =
     let known = both_accepted (refuse_if (leb 8 e.kind) Kind) _ ok in
     let plain = both_accepted (refuse_if (has_stray e) UnusedField) _ known.1 in
@@ -76,11 +75,11 @@ entry_accepted e i ok =
       second = below_if_used (uses_of e.kind).second i e.second down.1;
     }
 
-module _ (bytes : List ℕ) (ok : table_verdict bytes ≡ Accepted) where
+module _ (bytes : List ℕ) (ok : table_verdict bytes ≡ accepted) where
   -- an accepted table is well-formed
-  pub accepted : WellFormed (entry_in bytes) (size bytes)
+  pub accepted_formed : WellFormed (entry_in bytes) (size bytes)
   unfolding table_verdict
-  accepted i h =
+  accepted_formed i h =
       let entries = (both_accepted (refuse_if (length_faulty (length bytes)) TableLength) _ ok).1 in
       entry_accepted (entry_in bytes i) i (each_accepted _ (size bytes) entries i h)
 
@@ -92,8 +91,8 @@ module _ (bytes : List ℕ) (ok : table_verdict bytes ≡ Accepted) where
       omega (arith, ltb-false 256 (length bytes) short)
 
 -- a table is accepted if it has 1 to 64 entries, and each of them is
-pub entries_accepted : (bytes : List ℕ) (n : ℕ) → length bytes ≡ 4 * n → 1 ≤ n → n ≤ 64 → entries_verdict (entry_in bytes) n ≡ Accepted
-    → table_verdict bytes ≡ Accepted
+pub entries_accepted : (bytes : List ℕ) (n : ℕ) → length bytes ≡ 4 * n → 1 ≤ n → n ≤ 64 → entries_verdict (entry_in bytes) n ≡ accepted
+    → table_verdict bytes ≡ accepted
 unfolding table_verdict
 entries_accepted bytes n long some few each-is =
     let not_empty : eqb (length bytes) 0 ≡ false = ne_eqb (length bytes) 0 (λ e. omega arith) in

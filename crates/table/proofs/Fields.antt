@@ -2,12 +2,12 @@
 -- complement of the used bits exactly when every unused field is 0.
 use mathlib.Core.Path.{◌≡◌, refl, sym, ap, ◌∙◌}
 use mathlib.Core.Bool.{Bool, true, false, not, ◌&&◌, ◌||◌, not-not}
-use Prim.Native.Nat.{ℕ, zero, suc, ◌+◌, ◌-◌, ◌*◌, ◌/◌, ◌%◌, ◌^◌, ◌≤◌, ◌<◌}
+use Prim.Native.Nat.{ℕ, zero, suc, ◌+◌, ◌-◌, ◌*◌, ◌/◌, ◌%◌, ◌^◌, ◌<◌}
 use native.Mathlib.Nat.{mod-lt, mod-mod, div-one, zero-mul, zero-add, suc-mul}
 use native.Mathlib.Omega.{arith}
 use lib.Bits.{bit_and, and_block, and_mask, and_zero_r}
 use lib.Dec.{eqb, eqb-suc-zero}
-use lib.Pow.{pow_pos, ones_lt, split, high, shr-shr}
+use lib.Pow.{pow_pos, ones_lt, split, shr-shr}
 use borrow.Author.Tests.{eq-eqb, ne_eqb, not-true, not-false}
 use Rattle.packed.specs.Field.{field}
 use Rattle.table.specs.Entry.{entry_of}
@@ -90,31 +90,3 @@ module _ (word : ℕ) where
 
   pub stray_none : stray_bits ≡ 0 → has_stray (entry_of word) ≡ false
   stray_none e = not-true _ (sym (stray_bits_is word (uses_of (entry_of word).kind)) ∙ eq-eqb stray_bits 0 e)
-
-bits_le : (b : Bool) (x : ℕ) → on_bits b x ≤ x
-bits_le b x = omega (arith, used_or_unused b x)
-
--- the lowest bit of a field of six bits says whether the field is used
-field_bit : (high_part k low_part : ℕ) (b : Bool) → low_part < 2 ^ k
-    → eqb (bit_and (((high_part * 2 ^ 6 + on_bits b 63) * 2 ^ k + low_part) / 2 ^ k) 1) 1 ≡ b
-field_bit h k l b less = ap (λ (x : ℕ). eqb x 1) (and_mask _ 1 ∙ ap (λ (x : ℕ). x % 2) (high (h * 2 ^ 6 + on_bits b 63) k less)) ∙ odd b
-  where
-    odd : (b : Bool) → eqb ((h * 2 ^ 6 + on_bits b 63) % 2) 1 ≡ b
-    odd true = eq-eqb ((h * 2 ^ 6 + 63) % 2) 1 (omega arith)
-    odd false = ne_eqb ((h * 2 ^ 6 + 0) % 2) 1 (omega arith)
-
-module _ (u : Uses) where
-  pub first_bit : eqb (bit_and (bits_used u / 2 ^ 14) 1) 1 ≡ u.first
-  first_bit =
-      let n = on_bits u.name 255 in
-      let s = on_bits u.second 63 in
-      let g = on_bits u.grade 255 in
-      let blocks : bits_used u ≡ ((15 * 2 ^ 8 + n) * 2 ^ 6 + on_bits u.first 63) * 2 ^ 14 + (s * 2 ^ 8 + g) = omega arith in
-      rw blocks (field_bit (15 * 2 ^ 8 + n) 14 (s * 2 ^ 8 + g) u.first (omega (arith, bits_le u.second 63, bits_le u.grade 255)))
-
-  pub second_bit : eqb (bit_and (bits_used u / 2 ^ 8) 1) 1 ≡ u.second
-  second_bit =
-      let h = (15 * 2 ^ 8 + on_bits u.name 255) * 2 ^ 6 + on_bits u.first 63 in
-      let g = on_bits u.grade 255 in
-      let blocks : bits_used u ≡ (h * 2 ^ 6 + on_bits u.second 63) * 2 ^ 8 + g = omega arith in
-      rw blocks (field_bit h 8 g u.second (omega (arith, bits_le u.grade 255)))

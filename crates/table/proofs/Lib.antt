@@ -12,5 +12,3 @@ pub mod Depths
 pub mod Shallow
 -- the sum of grades
 pub mod Grades
--- tests of numbers, for the search for proofs
-pub mod Tests

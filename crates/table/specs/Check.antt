@@ -1,8 +1,7 @@
 -- Which tables are accepted, and the number that any other is refused with: document 01, faults 1 to 4 in its order.
 use Rattle.std.specs.Prelude.{Bool, true, false, not, ◌&&◌, ◌||◌, List, [], ◌∷◌, ℕ, ◌%◌, eqb, leb, ltb, length, get_or}
 use Rattle.faults.specs.declared.Fault.TheVariants.{TableLength, Kind, UnusedField, Reference}
-use Rattle.faults.specs.declared.Verdict.{Verdict}
-use Rattle.faults.specs.Verdict.{refuse_if, and_then, each}
+use Rattle.faults.specs.Verdict.{Verdict, refuse_if, and_then, each}
 use Rattle.table.specs.declared.entry.Entry.{Entry}
 use Rattle.table.specs.Entry.{entry_in, size}
 

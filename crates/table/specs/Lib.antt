@@ -11,3 +11,5 @@ pub mod Mask
 pub mod Space
 -- entries without a fault of their own; an inner contract
 pub mod Formed
+-- the numbers of the kinds
+pub mod Kind

@@ -5,20 +5,18 @@ ghost use Rattle.table.specs.Formed.{WellFormed};
 ghost use Rattle.table.specs.Formulas.{depth_of, Depths};
 
 use crate::entry;
-use numbers::max;
+use crate::kind::Kind;
 
 // The depth of an entry of a kind, given those of its first and second part.
 fn depth_of(first: u64, second: u64, kind: u32) -> u64
     requires { first ≤ 64 }
     ensures { result ≡ depth_of first second kind }
 {
-    match kind {
-        3 => first,
-        4 => max(first, second),
-        5 => max(first, second),
-        6 => first + 1,
-        7 => first + 1,
-        _ => 0,
+    match Kind::of(kind) {
+        Some(Kind::Not) => first,
+        Some(Kind::And | Kind::Or) => first.max(second),
+        Some(Kind::AtLeast | Kind::AtMost) => first + 1,
+        Some(Kind::True | Kind::False | Kind::Fact) | None => 0,
     }
 }
 
@@ -28,14 +26,9 @@ pub fn depths(table: &[u8], n: usize) -> [u64; 64]
     ensures { Depths (entry_in table.now) n result }
 {
     let mut depth = [0u64; 64];
-    let mut i = 0;
-    while i < n {
+    for i in 0..n {
         let e = entry::entry_at(table, i);
-        let kind = e.kind;
-        let first = e.first as usize;
-        let second = e.second as usize;
-        depth[i] = depth_of(depth[first], depth[second], kind);
-        i += 1;
+        depth[i] = depth_of(depth[e.first as usize], depth[e.second as usize], e.kind);
     }
     depth
 }

@@ -38,6 +38,7 @@ impl Entry {
 }
 
 // Entry i of a table, packed; 0 past the table's end.
+#[tactic(auto, unfolding(crate::specs::Entry::word_in))]
 pub fn word_at(table: &[u8], i: usize) -> u32
     ensures { result ≡ word_in table.now i }
 {

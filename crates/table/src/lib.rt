@@ -6,4 +6,5 @@
 pub mod checking;
 pub mod depth;
 pub mod entry;
+pub mod kind;
 pub mod space;

@@ -5,31 +5,28 @@ ghost use Rattle.table.specs.Space.{weight, sum_of_grades, table_work};
 
 use crate::entry;
 use crate::entry::Entry;
+use crate::kind::Kind;
 
 // What an entry adds to G.
 fn weight_of(e: Entry) -> usize
     requires { e.grade < 256 }
     ensures { result ≡ weight e }
 {
-    let kind = e.kind;
-    let grade = e.grade as usize;
-    match kind {
-        6 => grade + 1,
-        7 => grade + 1,
-        _ => 0,
+    match Kind::of(e.kind) {
+        Some(Kind::AtLeast | Kind::AtMost) => e.grade as usize + 1,
+        Some(Kind::True | Kind::False | Kind::Fact | Kind::Not | Kind::And | Kind::Or) | None => 0,
     }
 }
 
 // G over the first n entries.
+#[tactic(auto, unfolding(crate::specs::Space::sum_of_grades))]
 fn grade_sum(table: &[u8], n: usize) -> usize
     requires { n ≤ 64 }
     ensures { result ≡ sum_of_grades (entry_in table.now) n }
 {
     let mut sum: usize = 0;
-    let mut i = 0;
-    while i < n {
+    for i in 0..n {
         sum += weight_of(entry::entry_at(table, i));
-        i += 1;
     }
     sum
 }

@@ -1,19 +1,19 @@
 // A case: a call of `hurnavis::check_table`, whose number is compared with what document 01 gives.
+use faults::Numbered;
 use vectors::entries::{Room, put};
 use vectors::tally::Tally;
 
 // The number for the first bytes of a table. More bytes than there are give 255, which no case expects.
 fn answer(table: Room, bytes: usize) -> u8 {
-    if 260 < bytes {
+    let Some(table) = table.get(..bytes) else {
         return 255;
-    }
-    let verdict = hurnavis::check_table(&table[..bytes]);
-    verdict.number()
+    };
+    hurnavis::check_table(table).number()
 }
 
 // A case on the first bytes of a table.
 pub fn case(tally: Tally, table: Room, bytes: usize, expected: u8) -> Tally {
-    tally.case(answer(table, bytes) as u64, expected as u64)
+    tally.case(u64::from(answer(table, bytes)), u64::from(expected))
 }
 
 // A case on the first bytes of a table whose entries are all "true" but entry i.

@@ -26,53 +26,57 @@ pub fn kinds(before: Tally) -> Tally {
     tally
 }
 
-// Which kinds from 0 to 7 use a field: 1 for a used one.
-const NAME: [u8; 8] = [0, 0, 1, 0, 0, 0, 1, 1];
-
-const FIRST: [u8; 8] = [0, 0, 0, 1, 1, 1, 1, 1];
-
-const SECOND: [u8; 8] = [0, 0, 0, 0, 1, 1, 0, 0];
-
-const GRADE: [u8; 8] = [0, 0, 0, 0, 0, 0, 1, 1];
-
-// The fields in order: the highest bit of each, and the highest value that entry 63 may use in it.
-const HIGHEST_BIT: [u32; 4] = [128, 32, 32, 128];
-
-const HIGHEST: [u32; 4] = [255, 62, 62, 255];
-
-fn uses(kind: u32, field: usize) -> u8 {
-    let at = (kind % 8) as usize;
-    match field {
-        0 => NAME[at],
-        1 => FIRST[at],
-        2 => SECOND[at],
-        _ => GRADE[at],
-    }
+#[derive(Clone, Copy)]
+enum Field {
+    Name,
+    First,
+    Second,
+    Grade,
 }
 
-// An entry with a value in one field.
-fn with_field(kind: u32, field: usize, value: u32) -> u32 {
-    match field {
-        0 => pack(kind, value, 0, 0, 0),
-        1 => pack(kind, 0, value, 0, 0),
-        2 => pack(kind, 0, 0, value, 0),
-        _ => pack(kind, 0, 0, 0, value),
+impl Field {
+    // Whether a kind from 0 to 7 uses the field.
+    fn is_used_by(self, kind: u32) -> bool {
+        match self {
+            Field::Name => matches!(kind, 2 | 6 | 7),
+            Field::First => 3 <= kind,
+            Field::Second => matches!(kind, 4 | 5),
+            Field::Grade => matches!(kind, 6 | 7),
+        }
+    }
+
+    // The highest value that entry 63 may use in the field.
+    fn highest(self) -> u32 {
+        match self {
+            Field::Name | Field::Grade => 255,
+            Field::First | Field::Second => 62,
+        }
+    }
+
+    // An entry with a value in this field alone.
+    fn entry(self, kind: u32, value: u32) -> u32 {
+        match self {
+            Field::Name => pack(kind, value, 0, 0, 0),
+            Field::First => pack(kind, 0, value, 0, 0),
+            Field::Second => pack(kind, 0, 0, value, 0),
+            Field::Grade => pack(kind, 0, 0, 0, value),
+        }
     }
 }
 
 // A value in one field of entry 63: accepted if the kind uses the field.
-fn field_case(tally: Tally, kind: u32, field: usize, value: u32) -> Tally {
-    let expected = if uses(kind, field) == 1 { 0 } else { 3 };
-    one(tally, 256, 63, with_field(kind, field, value), expected)
+fn field_case(tally: Tally, kind: u32, field: Field, value: u32) -> Tally {
+    let expected = if field.is_used_by(kind) { 0 } else { 3 };
+    one(tally, 256, 63, field.entry(kind, value), expected)
 }
 
-// The field's highest value, and each of its bits alone.
-fn field_cases(before: Tally, kind: u32, field: usize) -> Tally {
-    let mut tally = field_case(before, kind, field, HIGHEST[field % 4]);
-    let mut bit = HIGHEST_BIT[field % 4];
-    while 0 < bit {
-        tally = field_case(tally, kind, field, bit);
-        bit = bit / 2;
+// The field's highest value, and each of its bits alone, from the highest down.
+fn field_cases(before: Tally, kind: u32, field: Field) -> Tally {
+    let mut tally = field_case(before, kind, field, field.highest());
+    for bit in [128, 64, 32, 16, 8, 4, 2, 1] {
+        if bit <= field.highest() {
+            tally = field_case(tally, kind, field, bit);
+        }
     }
     tally
 }
@@ -80,10 +84,9 @@ fn field_cases(before: Tally, kind: u32, field: usize) -> Tally {
 pub fn fields(before: Tally) -> Tally {
     let mut tally = before.subject(3000);
     for kind in 0..8 {
-        tally = field_cases(tally, kind, 0);
-        tally = field_cases(tally, kind, 1);
-        tally = field_cases(tally, kind, 2);
-        tally = field_cases(tally, kind, 3);
+        for field in [Field::Name, Field::First, Field::Second, Field::Grade] {
+            tally = field_cases(tally, kind, field);
+        }
     }
     tally
 }

@@ -48,7 +48,6 @@ module _ (P : Problem) where
       (λ n l h. omega arith)
 
   length_supplied : (slots : List Slot) → Serving P slots → length slots ≤ supplied P.entry slots P.n
-  unfolding length
   length_supplied [] serving = zero-le
   length_supplied (s ∷ slots) serving =
       omega (arith, length_supplied slots serving.2, supplied_more s slots serving.0 serving.1 P.n serving.1.asks.inside)

@@ -1,5 +1,6 @@
 // The longest texts and the most entries, and one more.
 use crate::case::{fills, refuses};
+use std::array;
 use vectors::description::Description;
 use vectors::entries::{TRUE, fact, not};
 use vectors::tally::Tally;
@@ -9,32 +10,30 @@ type Long = [u8; 1030];
 
 // One byte so many times, then a part, then another byte as often as there is room.
 fn long(ahead: usize, first: u8, part: &[u8], last: u8) -> Long {
-    let mut bytes = [last; 1030];
-    for i in 0..1030 {
+    array::from_fn(|i| {
         if i < ahead {
-            bytes[i] = first;
-        } else if i - ahead < part.len() {
-            bytes[i] = part[i - ahead];
+            first
+        } else {
+            *part.get(i - ahead).unwrap_or(&last)
         }
-    }
-    bytes
+    })
 }
 
 // The cases of the first bytes: refused with a number, or for 0 read into a table.
 fn cut(tally: Tally, bytes: Long, length: usize, expected: u8, d: Description) -> Tally {
-    if 1030 < length {
+    let Some(text) = bytes.get(..length) else {
         return tally.case(1, 0);
-    }
+    };
     if expected == 0 {
-        return fills(tally, &bytes[..length], d);
+        return fills(tally, text, d);
     }
-    refuses(tally, &bytes[..length], expected)
+    refuses(tally, text, expected)
 }
 
 // The same of one byte fewer, of so many, and of one more.
 fn around(before: Tally, bytes: Long, length: usize, expected: [u8; 3], d: Description) -> Tally {
-    let less = std::num::wrapping_sub_usize(length, 1);
-    let more = std::num::wrapping_add_usize(length, 1);
+    let less = length.wrapping_sub(1);
+    let more = length.wrapping_add(1);
     let mut tally = cut(before, bytes, less, expected[0], d);
     tally = cut(tally, bytes, length, expected[1], d);
     cut(tally, bytes, more, expected[2], d)

@@ -5,16 +5,8 @@ use vectors::tally::Tally;
 // Texts with a `;` between each two, all refused with this number.
 fn each(before: Tally, list: &[u8], expected: u8) -> Tally {
     let mut tally = before;
-    let mut start = 0;
-    let mut i = 0;
-    while i <= list.len() {
-        if i < list.len() && list[i] != b';' {
-            i += 1;
-            continue;
-        }
-        tally = refuses(tally, &list[start..i], expected);
-        i += 1;
-        start = i;
+    for text in list.split(|byte| *byte == b';') {
+        tally = refuses(tally, text, expected);
     }
     tally
 }
@@ -48,8 +40,7 @@ pub fn over(before: Tally) -> Tally {
 // Each byte alone and behind an operand, but for those that are operands themselves or spaces.
 pub fn bytes(before: Tally) -> Tally {
     let mut tally = before.subject(7000);
-    for i in 0u32..256 {
-        let byte = (i % 256) as u8;
+    for byte in 0..=255 {
         if byte != b'T' && byte != b'F' && byte != b' ' {
             tally = refuses(tally, &[byte], 11);
             tally = refuses(tally, &[b'T', byte], 11);

@@ -1,5 +1,3 @@
--- a truth table that is filled word by word
-pub mod Filling
 -- the count of ones of masks
 mod Counting
 -- places that are given out one after the other

@@ -1,31 +1,16 @@
 -- Places are given out one after the other: a new row begins where the rows before it end, so it meets none of them.
 use mathlib.Core.Path.{◌≡◌, refl, sym, ap, ◌∙◌}
-use mathlib.Core.Logic.{by_cases, ⊎_elim}
+use mathlib.Core.Logic.{by_cases}
 use mathlib.Core.Bool.{Bool, true, false}
 use mathlib.Core.List.{List}
 use Prim.Native.Nat.{ℕ, ◌+◌, ◌≤◌, ◌<◌}
-use native.Mathlib.Nat.{eq-or-lt_of_le, le_of_suc-le-suc}
-use native.Mathlib.Numerals.{add-one}
 use native.Mathlib.Decide.{ℕ_discrete}
 use native.Mathlib.Omega.{arith}
-use lib.ListN.{length, get_or, set, length-set}
+use lib.ListN.{get_or, set, length-set}
 use lib.Seq.{get_or-set_same, get_or-set_other}
-use Rattle.table.specs.declared.entry.Entry.{Entry}
 use Rattle.structure.specs.Masks.{width_of, key_of, place_of, Layout}
 use Rattle.structure.proofs.Masks.{key_same}
-use Rattle.truth_table.specs.Masks.{Asks, Laid, Extended}
-
-narrow : (k : Bool) {worlds : ℕ} → 1 ≤ worlds → 0 + width_of k worlds ≤ worlds
-narrow true h = omega arith
-narrow false h = h
-
--- no row has a place of its own yet: all begin at 0
-pub layout_none : (worlds : ℕ) (places : List ℕ) → 1 ≤ worlds → length places ≡ 512 → ((p : ℕ) → get_or places p 0 ≡ 0) → Layout worlds worlds places
-layout_none worlds places some keys zeros = record {
-  keys = keys;
-  inside = λ k name h. rw (zeros (key_of k name)) (narrow k some);
-  apart = λ k k' name name' v v' h h' l l' own e. absurd (omega (arith, own, zeros (key_of k name)));
-}
+use Rattle.truth_table.specs.Masks.{Extended}
 
 key_lt : (k : Bool) {name : ℕ} → name < 256 → key_of k name < 512
 key_lt true h = omega arith
@@ -72,34 +57,4 @@ module _ (worlds used : ℕ) (places : List ℕ) (layout : Layout worlds used pl
     layout = record { keys = length-set places (key_of k₀ name₀) used ∙ layout.keys; inside = in_room; apart = no_meeting };
     own = rw (new k₀ name₀ refl) some;
     kept = λ k name h own. old k name (λ e. let same : place_of places k name ≡ 0 = ap (λ (i : ℕ). get_or places i 0) e ∙ none in omega arith);
-  }
-
-  -- the row was there
-  pub extended_known : 0 < place_of places k₀ name₀ → Extended worlds used k₀ name₀ places places
-  extended_known own = record { layout = layout; own = own; kept = λ k name h o. refl }
-
-module _ (entry : ℕ → Entry) (from i worlds used : ℕ) (places rows : List ℕ) (laid : Laid entry from i worlds used places rows) where
-  -- an entry that asks for nothing
-  pub laid_skip : ((k : Bool) → Asks (entry i) k → ⊥) → Laid entry from (i + 1) worlds used places rows
-  laid_skip none = record {
-    layout = laid.layout;
-    row = λ j h l k asks.
-        ⊎_elim (λ (e : j ≡ i). absurd (none k (rw e at asks))) (λ (b : j < i). laid.row j h b k asks)
-        (eq-or-lt_of_le (le_of_suc-le-suc (rw (add-one i) at l)));
-  }
-
-  -- an entry that asks for a row, which has a place now
-  pub laid_more : {next : ℕ} {k₀ : Bool} {places' : List ℕ} → Extended worlds next k₀ (entry i).name places places'
-      → ((k : Bool) → Asks (entry i) k → k ≡ k₀) → ((j : ℕ) → (entry j).name < 256) → i < length rows
-      → Laid entry from (i + 1) worlds next places' (set rows i (place_of places' k₀ (entry i).name))
-  laid_more {next} {k₀} {places'} wider only named room = record {
-    layout = wider.layout;
-    row = λ j h l k asks.
-        ⊎_elim
-        (λ (e : j ≡ i). rw (e, only k (rw e at asks), get_or-set_same rows i (place_of places' k₀ (entry i).name) 0 room) (refl, wider.own))
-        (λ (b : j < i).
-        let before = laid.row j h b k asks in
-        let same = wider.kept k (entry j).name (named j) (rw before.0 at before.1) in
-        rw (get_or-set_other rows i j (place_of places' k₀ (entry i).name) 0 (omega arith)) (before.0 ∙ sym same, before.1))
-        (eq-or-lt_of_le (le_of_suc-le-suc (rw (add-one i) at l)));
   }

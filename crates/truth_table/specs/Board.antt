@@ -1,12 +1,10 @@
 -- The truth table of a structure: a word for each entry, a bit for each world. Document 01 calls it the board.
-use Rattle.std.specs.Prelude.{◌≡◌, List, ℕ, ◌<◌, ◌≤◌, ltb, length, get_or}
+use Rattle.std.specs.Prelude.{Ok, Err, ◌≡◌, List, ℕ, ◌<◌, ◌≤◌, ltb, length, get_or}
 use Rattle.semantics.specs.Structure.{Structure}
 use Rattle.semantics.specs.Truth.{truth}
 use Rattle.sets.specs.Word.{word}
 use Rattle.faults.specs.declared.Fault.TheVariants.{Space}
-use Rattle.faults.specs.declared.Verdict.{Verdict}
-use Rattle.faults.specs.declared.Verdict.TheVariants.{Accepted, Refused}
-use Rattle.faults.specs.Verdict.{refuse_if, and_then}
+use Rattle.faults.specs.Verdict.{Verdict, refuse_if, and_then}
 use Rattle.table.specs.declared.entry.Entry.{Entry}
 use Rattle.table.specs.Entry.{entry_in, size}
 use Rattle.table.specs.Formulas.{formula_at}
@@ -30,5 +28,5 @@ board_verdict bytes packed words = and_then (table_verdict bytes) (and_then (str
 
 -- what the lent words are after an answer, and after a refusal
 abbrev pub BoardAfter : List ℕ → List ℕ → List ℕ → Verdict → List ℕ → Type 0
-BoardAfter bytes packed before Accepted after = Filled (structure_of packed) (entry_in bytes) (size bytes) before after
-BoardAfter bytes packed before (Refused f) after = after ≡ before
+BoardAfter bytes packed before (Ok tt) after = Filled (structure_of packed) (entry_in bytes) (size bytes) before after
+BoardAfter bytes packed before (Err f) after = after ≡ before

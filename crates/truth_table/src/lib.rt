@@ -2,7 +2,7 @@
 #![tactic(auto)]
 
 ghost use Rattle.std.specs.Prelude.{◌≡◌, true, ℕ, ◌+◌, ◌*◌, ◌≤◌, ◌<◌, length, get_or};
-ghost use Rattle.faults.specs.declared.Verdict.TheVariants.{Accepted};
+ghost use Rattle.faults.specs.Verdict.{accepted};
 ghost use Rattle.semantics.specs.Structure.{Structure};
 ghost use Rattle.sets.specs.Word.{word};
 ghost use Rattle.structure.specs.Record.{records};
@@ -11,166 +11,96 @@ ghost use Rattle.table.specs.Entry.{entry_in, size};
 ghost use Rattle.table.specs.Check.{table_verdict};
 ghost use Rattle.truth_table.specs.Board.{truth_word, board_verdict, BoardAfter};
 ghost use Rattle.structure.specs.Masks.{Leveled};
-ghost use Rattle.truth_table.specs.Masks.{Called, Sized, Served, Ready, grid_of, GoesOn};
+ghost use Rattle.truth_table.specs.Masks.{Called, Sized, Served, Ready, GoesOn, PartFilled};
 
 use crate::entry_word::Grid;
-use crate::places::Part;
+use crate::places::{MAX_WORDS, Part};
 use faults::{Fault, Verdict};
-use packed::{short_at, word_at};
+use packed::item_or;
 use structure::read;
 
 pub mod entry_word;
 pub mod places;
 
 // The word of entry i, where the words before it are there already: what an entry refers to stands before it.
-fn next_word(
-    table: &[u8],
-    rows: &[u16],
-    masks: &[u64],
-    grid: Grid,
-    all: u64,
-    words: &[u64],
-    i: usize,
-) -> u64
-    requires { (table_verdict table.now ≡ Accepted) × (i < size table.now) × Sized grid 0
-        × (6 ≤ (entry_in table.now i).kind → grid.levels * (get_or rows.now i 0 + grid.width) ≤ length masks.now) }
+fn next_word(table: &[u8], rows: &[u16], grid: Grid<'_>, all: u64, words: &[u64], i: usize) -> u64
+    requires { (table_verdict table.now ≡ accepted) × (i < size table.now) × Sized grid 0
+        × (6 ≤ (entry_in table.now i).kind → grid.levels * (get_or rows.now i 0 + grid.width) ≤ length grid.masks.now) }
     ensures { (s : Structure) → all ≡ word (λ w. true) s.worlds → s.worlds ≤ 64
-        → Served s (entry_in table.now i) masks.now (get_or rows.now i 0) grid
+        → Served s (entry_in table.now i) (get_or rows.now i 0) grid.entry
         → ((j : ℕ) → j < i → get_or words.now j 0 ≡ truth_word s (entry_in table.now) j)
         → result ≡ truth_word s (entry_in table.now) i }
 {
     let e = table::entry::entry_at(table, i);
-    let first = word_at(words, e.first as usize);
-    let second = word_at(words, e.second as usize);
-    entry_word::entry_word(e, masks, short_at(rows, i), grid, all, first, second)
+    let first = item_or(words, e.first as usize, 0);
+    let second = item_or(words, e.second as usize, 0);
+    entry_word::entry_word(e, grid, item_or(rows, i, 0) as usize, all, first, second)
 }
 
-// Fills the words of a part of the table, entry by entry, where the masks have what its entries ask for, in rows of `width`
-// words at each level.
-fn fill_words(
-    table: &[u8],
-    packed: &[u8],
-    rows: &[u16],
-    masks: &[u64],
-    width: usize,
+// A part of a table that is laid out for a structure: the places of the facts and relations, and the row of each entry.
+#[derive(Clone, Copy)]
+struct Plan<'a> {
+    table: &'a [u8],
+    packed: &'a [u8],
+    places: &'a [u16],
+    rows: &'a [u16],
     part: Part,
-    words: &mut [u64],
-)
-    requires { Called table.now packed.now (length words.old) × (part.from ≤ part.to) × (part.to ≤ size table.now)
-        × Sized (grid_of part width) 0
-        × ((i : ℕ) → part.from ≤ i → i < part.to
-        → Served (structure_of packed.now) (entry_in table.now i) masks.now (get_or rows.now i 0) (grid_of part width)) }
-    ensures { GoesOn table.now packed.now part.from part.to words.old words.new }
-{
-    let all = entry_word::all_worlds(read::worlds(packed));
-    let grid = Grid {
-        width: width,
-        levels: part.levels,
-    };
-    let to = part.to;
-    let mut i = part.from;
-    while i < to {
-        words[i] = next_word(table, rows, masks, grid, all, words, i);
-        i += 1;
+}
+
+impl Plan<'_> {
+    // Fills the words of the part, entry by entry, where the masks have what its entries ask for.
+    fn fill_words(self, grid: Grid<'_>, words: &mut [u64])
+        requires { Called self.table.now self.packed.now (length words.old) × (self.part.from ≤ self.part.to)
+            × (self.part.to ≤ size self.table.now) × Sized grid 0
+            × ((i : ℕ) → self.part.from ≤ i → i < self.part.to
+            → Served (structure_of self.packed.now) (entry_in self.table.now i) (get_or self.rows.now i 0) grid) }
+        ensures { PartFilled self.entry words.old words.new }
+    {
+        let all = entry_word::all_worlds(read::worlds(self.packed));
+        for i in self.part.from..self.part.to {
+            words[i] = next_word(self.table, self.rows, grid, all, words, i);
+        }
     }
-}
 
-// Fills the words by masks that are lent as zeros, and filled first.
-fn fill_with(
-    table: &[u8],
-    packed: &[u8],
-    places: &[u16],
-    rows: &[u16],
-    part: Part,
-    masks: &mut [u64],
-    words: &mut [u64],
-)
-    requires { Ready table.now packed.now (length words.old) part places.now rows.now
-        × (part.levels * part.used ≤ length masks.old) × ((p : ℕ) → get_or masks.old p 0 ≡ 0) }
-    ensures { GoesOn table.now packed.now part.from part.to words.old words.new }
-{
-    read::fill_masks(packed, places, part.levels, masks);
-    fill_words(
-        table,
-        packed,
-        rows,
-        masks,
-        read::worlds(packed),
-        part,
-        words,
-    );
-}
-
-// Few masks: 512 bytes, which are soon zeros.
-fn fill_small(
-    table: &[u8],
-    packed: &[u8],
-    places: &[u16],
-    rows: &[u16],
-    part: Part,
-    words: &mut [u64],
-)
-    requires { Ready table.now packed.now (length words.old) part places.now rows.now × (part.levels * part.used ≤ 64) }
-    ensures { GoesOn table.now packed.now part.from part.to words.old words.new }
-{
-    let mut masks = [0u64; 64];
-    fill_with(table, packed, places, rows, part, &mut masks, words);
-}
-
-// More: 4 KiB, six relations of 64 worlds and a fact for every other entry.
-fn fill_medium(
-    table: &[u8],
-    packed: &[u8],
-    places: &[u16],
-    rows: &[u16],
-    part: Part,
-    words: &mut [u64],
-)
-    requires { Ready table.now packed.now (length words.old) part places.now rows.now × (part.levels * part.used ≤ 512) }
-    ensures { GoesOn table.now packed.now part.from part.to words.old words.new }
-{
-    let mut masks = [0u64; 512];
-    fill_with(table, packed, places, rows, part, &mut masks, words);
-}
-
-// The most that a part can ask for: 32.5 KiB.
-fn fill_large(
-    table: &[u8],
-    packed: &[u8],
-    places: &[u16],
-    rows: &[u16],
-    part: Part,
-    words: &mut [u64],
-)
-    requires { Ready table.now packed.now (length words.old) part places.now rows.now }
-    ensures { GoesOn table.now packed.now part.from part.to words.old words.new }
-{
-    let mut masks = [0u64; 4160];
-    fill_with(table, packed, places, rows, part, &mut masks, words);
-}
-
-// Fills the words of a part by as many masks as its rows take.
-fn fill_room(
-    table: &[u8],
-    packed: &[u8],
-    places: &[u16],
-    rows: &[u16],
-    part: Part,
-    words: &mut [u64],
-)
-    requires { Ready table.now packed.now (length words.old) part places.now rows.now }
-    ensures { GoesOn table.now packed.now part.from part.to words.old words.new }
-{
-    let room = part.levels * part.used;
-    if room <= 64 {
-        fill_small(table, packed, places, rows, part, words);
-        return;
+    // Fills the words by masks that are lent as zeros, and filled first.
+    fn fill_with(self, masks: &mut [u64], words: &mut [u64])
+        requires { Ready self (length words.old) × (self.part.levels * self.part.used ≤ length masks.old)
+            × ((p : ℕ) → get_or masks.old p 0 ≡ 0) }
+        ensures { PartFilled self.entry words.old words.new }
+    {
+        read::fill_masks(self.packed, self.places, self.part.levels, masks);
+        let grid = Grid {
+            masks,
+            width: read::worlds(self.packed),
+            levels: self.part.levels,
+        };
+        self.fill_words(grid, words);
     }
-    if room <= 512 {
-        fill_medium(table, packed, places, rows, part, words);
-        return;
+
+    // Fills the words by masks of its own.
+    fn fill_sized<const N: usize>(self, words: &mut [u64])
+        requires { Ready self (length words.old) × (self.part.levels * self.part.used ≤ N) × (N ≤ 4160) }
+        ensures { PartFilled self.entry words.old words.new }
+    {
+        let mut masks = [0u64; N];
+        self.fill_with(&mut masks, words);
     }
-    fill_large(table, packed, places, rows, part, words);
+
+    // Fills the words by as many masks as the rows take. Few are soon zeros; 512 are six relations of 64 worlds and a fact for
+    // every other entry; a part asks for MAX_WORDS at most.
+    fn fill(self, words: &mut [u64])
+        requires { Ready self (length words.old) }
+        ensures { PartFilled self.entry words.old words.new }
+    {
+        let room = self.part.levels * self.part.used;
+        if room <= 64 {
+            self.fill_sized::<64>(words);
+        } else if room <= 512 {
+            self.fill_sized::<512>(words);
+        } else {
+            self.fill_sized::<MAX_WORDS>(words);
+        }
+    }
 }
 
 // Lays out what the entries from `from` on ask for, as many as there is room for, and fills their words. The entry behind them.
@@ -189,15 +119,21 @@ fn fill_part(table: &[u8], packed: &[u8], from: usize, levels: usize, words: &mu
         &mut places,
         &mut rows,
     );
-    let to = part.to;
-    fill_room(table, packed, &places, &rows, part, words);
-    to
+    let plan = Plan {
+        table,
+        packed,
+        places: &places,
+        rows: &rows,
+        part,
+    };
+    plan.fill(words);
+    part.to
 }
 
 // Fills the words part by part.
 fn fill_laid(table: &[u8], packed: &[u8], words: &mut [u64])
     requires { Called table.now packed.now (length words.old) }
-    ensures { BoardAfter table.now packed.now words.old Accepted words.new }
+    ensures { BoardAfter table.now packed.now words.old accepted words.new }
 {
     let levels = read::levels(packed);
     let n = table.len() / 4;
@@ -210,47 +146,50 @@ fn fill_laid(table: &[u8], packed: &[u8], words: &mut [u64])
 // Fills the words where the header is the only record: nothing is stated, so there is nothing to lay out.
 fn fill_bare(table: &[u8], packed: &[u8], words: &mut [u64])
     requires { Called table.now packed.now (length words.old) × (records packed.now ≤ 1) }
-    ensures { BoardAfter table.now packed.now words.old Accepted words.new }
+    ensures { BoardAfter table.now packed.now words.old accepted words.new }
 {
-    let rows = [0u16; 1];
-    let masks = [0u64; 1];
-    let part = Part {
-        from: 0,
-        to: table.len() / 4,
-        levels: 1,
-        used: 0,
+    let plan = Plan {
+        table,
+        packed,
+        places: &[],
+        rows: &[],
+        part: Part {
+            from: 0,
+            to: table.len() / 4,
+            levels: 1,
+            used: 0,
+        },
     };
-    fill_words(table, packed, &rows[..0], &masks[..0], 0, part, words);
+    let grid = Grid {
+        masks: &[],
+        width: 0,
+        levels: 1,
+    };
+    plan.fill_words(grid, words);
 }
 
 // Fills the first words, a word an entry.
 fn fill(table: &[u8], packed: &[u8], words: &mut [u64])
     requires { Called table.now packed.now (length words.old) }
-    ensures { BoardAfter table.now packed.now words.old Accepted words.new }
+    ensures { BoardAfter table.now packed.now words.old accepted words.new }
 {
     if packed.len() <= 3 {
         fill_bare(table, packed, words);
-        return;
+    } else {
+        fill_laid(table, packed, words);
     }
-    fill_laid(table, packed, words);
 }
 
 // The first fault of a call with this many lent words.
 fn checked(table: &[u8], packed: &[u8], words: usize) -> Verdict
     ensures { result ≡ board_verdict table.now packed.now words }
 {
-    let of_table = table::checking::check(table);
-    let Verdict::Accepted = of_table else {
-        return of_table;
-    };
-    let of_structure = structure::checking::check(packed);
-    let Verdict::Accepted = of_structure else {
-        return of_structure;
-    };
+    table::checking::check(table)?;
+    structure::checking::check(packed)?;
     if words < table.len() / 4 {
-        return Verdict::Refused(Fault::Space);
+        return Err(Fault::Space);
     }
-    Verdict::Accepted
+    Ok(())
 }
 
 // Writes the truth table, a word an entry, or refuses and writes nothing.
@@ -258,10 +197,7 @@ pub fn board(table: &[u8], packed: &[u8], words: &mut [u64]) -> Verdict
     ensures { (result ≡ board_verdict table.now packed.now (length words.old))
         × BoardAfter table.now packed.now words.old result words.new }
 {
-    let verdict = checked(table, packed, words.len());
-    let Verdict::Accepted = verdict else {
-        return verdict;
-    };
+    checked(table, packed, words.len())?;
     fill(table, packed, words);
-    Verdict::Accepted
+    Ok(())
 }

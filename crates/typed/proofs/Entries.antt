@@ -9,22 +9,15 @@ use lib.ListN.{get_or}
 use borrow.Author.Tests.{eq-eqb, lt-ltb, ltb-true, eqb-true}
 use Rattle.semantics.specs.Formula.{Formula}
 use Rattle.table.specs.declared.entry.Entry.{Entry}
-use Rattle.table.specs.Entry.{entry_of, Packable}
+use Rattle.table.specs.Entry.{entry_of}
 use Rattle.postorder.specs.Order.{inner, size, Ordered}
 use Rattle.grammar.specs.declared.Leaf.{Leaf}
 use Rattle.grammar.specs.declared.Prefix.{Prefix}
 use Rattle.grammar.specs.declared.Join.{Join}
 use Rattle.grammar.specs.Tree.{leaf_of, prefix_of, join_of, rank}
-use Rattle.typed.specs.Held.{entry_of_leaf, entry_of_prefix, entry_of_join, is_join, operand_put, rank_of}
+use Rattle.typed.specs.declared.pending.Waiting.{Waiting}
+use Rattle.typed.specs.Held.{nothing, entry_of_leaf, entry_of_prefix, entry_of_join, rank_of}
 use Rattle.typed.specs.Steps.{takes_now, closed_entry}
-
--- an entry that was packed can be packed with another operand
-repackable_so : (q : Bool) (word last : ℕ) → last < 64 → Packable (operand_put q (entry_of word) last)
-repackable_so true word last h = record { kind = omega arith; name = omega arith; first = omega arith; second = h; grade = omega arith }
-repackable_so false word last h = record { kind = omega arith; name = omega arith; first = h; second = omega arith; grade = omega arith }
-
-pub repackable : {e r : Entry} (word last : ℕ) → e ≡ entry_of word → r ≡ closed_entry e last → last < 64 → Packable r
-repackable word last unpacked completed h = rw (completed, unpacked) (repackable_so (is_join (entry_of word).kind) word last h)
 
 -- a waiting entry gets its operand
 pub prefix_closed : (p : Prefix) (last : ℕ) → closed_entry (entry_of_prefix p 0) last ≡ entry_of_prefix p last
@@ -90,15 +83,15 @@ all_three true true false e = let z : ◌≡◌ {A = ℕ} 0 1 = cc in absurd (om
 all_three true false z e = let z : ◌≡◌ {A = ℕ} 0 1 = cc in absurd (omega arith)
 all_three false y z e = let z : ◌≡◌ {A = ℕ} 0 1 = cc in absurd (omega arith)
 
-module _ (words depths : List ℕ) (k c b : ℕ) where
-  pub takes_parts : takes_now words depths k c b ≡ true → (0 < k) × (get_or depths (k - 1) 0 ≡ c) × (leb b (rank_of (entry_of (get_or words (k - 1) 0)).kind) ≡ true)
+module _ (stack : List Waiting) (k c b : ℕ) where
+  pub takes_parts : takes_now stack k c b ≡ true → (0 < k) × ((get_or stack (k - 1) nothing).depth ≡ c) × (leb b (rank_of (entry_of (get_or stack (k - 1) nothing).word).kind) ≡ true)
   takes_parts e =
       let parts = all_three (ltb 0 k) _ _ e in
       (ltb-true 0 k parts.0, eqb-true _ _ parts.1, parts.2)
 
-  pub takes_last : {e : Entry} {r : ℕ} → (k ≡ 0 → ⊥) → get_or depths (k - 1) 0 ≡ c → e ≡ entry_of (get_or words (k - 1) 0) → r ≡ rank_of e.kind
-      → leb b r ≡ takes_now words depths k c b
+  pub takes_last : {e : Entry} {r : ℕ} → (k ≡ 0 → ⊥) → (get_or stack (k - 1) nothing).depth ≡ c → e ≡ entry_of (get_or stack (k - 1) nothing).word → r ≡ rank_of e.kind
+      → leb b r ≡ takes_now stack k c b
   takes_last some here is ranks =
       let yes : ltb 0 k ≡ true = lt-ltb 0 k (omega arith) in
-      let same : eqb (get_or depths (k - 1) 0) c ≡ true = eq-eqb _ _ here in
+      let same : eqb ((get_or stack (k - 1) nothing).depth) c ≡ true = eq-eqb _ _ here in
       rw (yes, same, ranks, is) refl

@@ -1,5 +1,5 @@
--- What the writer of a table holds while it reads signs: entries that are written, signs that wait for an operand in two lent arrays, each
--- with the number of brackets open where it stands. An inner contract.
+-- What the writer of a table holds while it reads signs: entries that are written, and a stack of signs that wait for an operand, each with
+-- the number of brackets open where it stands. An inner contract.
 use Rattle.std.specs.Prelude.{◌≡◌, Bool, true, false, ◌&&◌, List, [], ◌∷◌, ℕ, suc, ◌+◌, ◌*◌, ◌≤◌, eqb, leb, ltb, length, get_or}
 use Rattle.table.specs.declared.entry.Entry.{Entry}
 use Rattle.table.specs.Entry.{entry_of, entry_in}
@@ -9,6 +9,7 @@ use Rattle.grammar.specs.declared.Prefix.{Prefix}
 use Rattle.grammar.specs.declared.Join.{Join}
 use Rattle.grammar.specs.Tree.{Tree, formula}
 use Rattle.grammar.specs.Parser.{Frame, bracket, waiting, left, State, operand, operator, failed}
+use Rattle.typed.specs.declared.pending.Waiting.{Waiting}
 
 -- the entry of each sign, with the entries that it refers to
 abbrev pub entry_of_leaf : Leaf → Entry
@@ -41,30 +42,34 @@ choose false a b = b
 abbrev pub rank_of : ℕ → ℕ
 rank_of kind = choose (eqb kind 4) 1 (choose (eqb kind 5) 0 2)
 
+-- in a place of the stack that holds no sign
+abbrev pub nothing : Waiting
+nothing = record { word = 0; depth = 0 }
+
 -- frames, as k waiting signs at c open brackets, with n entries of operands
-unfoldable pub Waits : (words depths : List ℕ) → (ℕ → Entry) → List Frame → (k c n : ℕ) → Type 0
-Waits words depths entry [] k c n = (k ≡ 0) × (c ≡ 0) × (n ≡ 0)
-Waits words depths entry (bracket ∷ fs) k c n = (d : ℕ) × (c ≡ suc d) × Waits words depths entry fs k d n
-Waits words depths entry (waiting p ∷ fs) k c n =
-    (i : ℕ) × (k ≡ suc i) × (get_or depths i 0 ≡ c) × (entry_of (get_or words i 0) ≡ entry_of_prefix p 0) × Waits words depths entry fs i c n
-Waits words depths entry (left j s ∷ fs) k c n =
-    (i : ℕ) × (b : ℕ) × (k ≡ suc i) × (n ≡ b + size (formula s)) × (get_or depths i 0 ≡ c)
-    × (entry_of (get_or words i 0) ≡ entry_of_join j (b + inner (formula s)) 0)
+unfoldable pub Waits : (stack : List Waiting) → (ℕ → Entry) → List Frame → (k c n : ℕ) → Type 0
+Waits stack entry [] k c n = (k ≡ 0) × (c ≡ 0) × (n ≡ 0)
+Waits stack entry (bracket ∷ fs) k c n = (d : ℕ) × (c ≡ suc d) × Waits stack entry fs k d n
+Waits stack entry (waiting p ∷ fs) k c n =
+    (i : ℕ) × (k ≡ suc i) × ((get_or stack i nothing).depth ≡ c) × (entry_of (get_or stack i nothing).word ≡ entry_of_prefix p 0) × Waits stack entry fs i c n
+Waits stack entry (left j s ∷ fs) k c n =
+    (i : ℕ) × (b : ℕ) × (k ≡ suc i) × (n ≡ b + size (formula s)) × ((get_or stack i nothing).depth ≡ c)
+    × (entry_of (get_or stack i nothing).word ≡ entry_of_join j (b + inner (formula s)) 0)
     × Ordered entry b (formula s)
-    × Waits words depths entry fs i c b
+    × Waits stack entry fs i c b
 
 -- frames, and an operand behind theirs
-pub record Holding (words depths table : List ℕ) (k c n : ℕ) (fs : List Frame) (t : Tree) : Type 0 where
+pub record Holding (stack : List Waiting) (table : List ℕ) (k c n : ℕ) (fs : List Frame) (t : Tree) : Type 0 where
   pub base : ℕ
-  pub frames : Waits words depths (entry_in table) fs k c base
+  pub frames : Waits stack (entry_in table) fs k c base
   pub top : Ordered (entry_in table) base (formula t)
   pub count : n ≡ base + size (formula t)
 
 -- a state of the reader
-unfoldable pub At : (words depths table : List ℕ) → (k c n : ℕ) → State → Type 0
-At words depths table k c n (operand fs) = Waits words depths (entry_in table) fs k c n
-At words depths table k c n (operator fs t) = Holding words depths table k c n fs t
-At words depths table k c n failed = ⊥
+unfoldable pub At : (stack : List Waiting) (table : List ℕ) → (k c n : ℕ) → State → Type 0
+At stack table k c n (operand fs) = Waits stack (entry_in table) fs k c n
+At stack table k c n (operator fs t) = Holding stack table k c n fs t
+At stack table k c n failed = ⊥
 
 -- the table as long as before, and the same behind its first n entries
 pub record Behind (n : ℕ) (before after : List ℕ) : Type 0 where

@@ -6,65 +6,70 @@ use Rattle.grammar.specs.declared.Sign.{Sign}
 use Rattle.grammar.specs.Tree.{Tree}
 use Rattle.grammar.specs.Measure.{over, weight}
 use Rattle.grammar.specs.Parser.{Frame, State, failed, rest, whole, step}
-use Rattle.typed.specs.declared.pending.Place.{Place}
-use Rattle.typed.specs.Held.{is_join, operand_put, rank_of, Holding, At, Behind}
+use Rattle.typed.specs.declared.pending.Writer.{Writer}
+use Rattle.typed.specs.declared.pending.Waiting.{Waiting}
+use Rattle.typed.specs.Held.{nothing, is_join, operand_put, rank_of, Holding, At, Behind}
 
 -- the last waiting sign stands at this depth and binds at least as closely as asked
-abbrev pub takes_now : (words depths : List ℕ) → (k c b : ℕ) → Bool
-takes_now words depths k c b = ltb 0 k && (eqb (get_or depths (k - 1) 0) c && leb b (rank_of (entry_of (get_or words (k - 1) 0)).kind))
+abbrev pub takes_now : (stack : List Waiting) → (k c b : ℕ) → Bool
+takes_now stack k c b = ltb 0 k && (eqb ((get_or stack (k - 1) nothing).depth) c && leb b (rank_of (entry_of (get_or stack (k - 1) nothing).word).kind))
 
 abbrev pub closed_entry : Entry → ℕ → Entry
 closed_entry e last = operand_put (is_join e.kind) e last
 
+-- nothing is written, and no sign waits
+pub record Blank (writer : Writer) : Type 0 where
+  pub entries : writer.entries ≡ 0
+  pub pending : writer.pending ≡ 0
+  pub depth : writer.depth ≡ 0
+
 -- one more sign waits
-pub record Pushed (e : Entry) (place : Place) (words depths words' depths' : List ℕ) (r : Place) : Type 0 where
-  pub entry : entry_of (get_or words' place.pending 0) ≡ e
-  pub depth : get_or depths' place.pending 0 ≡ place.depth
-  pub words_below : (i : ℕ) → i < place.pending → get_or words' i 0 ≡ get_or words i 0
-  pub depths_below : (i : ℕ) → i < place.pending → get_or depths' i 0 ≡ get_or depths i 0
-  pub is : r ≡ record { entries = place.entries; pending = place.pending + 1; depth = place.depth }
+pub record Pushed (e : Entry) (writer r : Writer) : Type 0 where
+  pub entry : entry_of (get_or r.stack writer.pending nothing).word ≡ e
+  pub opened : (get_or r.stack writer.pending nothing).depth ≡ writer.depth
+  pub below : (i : ℕ) → i < writer.pending → get_or r.stack i nothing ≡ get_or writer.stack i nothing
+  pub entries : r.entries ≡ writer.entries
+  pub pending : r.pending ≡ writer.pending + 1
+  pub depth : r.depth ≡ writer.depth
 
 -- room for the entries of all signs that wait
-pub record Room (table : List ℕ) (place : Place) : Type 0 where
-  pub few : place.entries + place.pending ≤ 64
-  pub lent : 4 * (place.entries + place.pending) ≤ length table
+pub record Room (table : List ℕ) (writer : Writer) : Type 0 where
+  pub few : writer.entries + writer.pending ≤ 64
+  pub lent : 4 * (writer.entries + writer.pending) ≤ length table
 
 -- the last waiting sign's entry is written, with the last entry as its operand
-pub record Closed (words before after : List ℕ) (place r : Place) : Type 0 where
-  pub is : r ≡ record { entries = place.entries + 1; pending = place.pending - 1; depth = place.depth }
-  pub there : entry_in after place.entries ≡ closed_entry (entry_of (get_or words (place.pending - 1) 0)) (place.entries - 1)
-  pub in_front : (j : ℕ) → j < place.entries → entry_in after j ≡ entry_in before j
-  pub behind : Behind (place.entries + 1) before after
+pub record Closed (before after : List ℕ) (writer r : Writer) : Type 0 where
+  pub is : r ≡ record { entries = writer.entries + 1; stack = writer.stack; pending = writer.pending - 1; depth = writer.depth }
+  pub there : entry_in after writer.entries ≡ closed_entry (entry_of (get_or writer.stack (writer.pending - 1) nothing).word) (writer.entries - 1)
+  pub in_front : (j : ℕ) → j < writer.entries → entry_in after j ≡ entry_in before j
+  pub behind : Behind (writer.entries + 1) before after
 
 -- waiting signs that bind at least as closely as b have taken their operand
-pub record Settled (b : ℕ) (words depths before after : List ℕ) (place r : Place) : Type 0 where
-  pub total : r.entries + r.pending ≡ place.entries + place.pending
-  pub some : place.entries ≤ r.entries
-  pub depth : r.depth ≡ place.depth
-  pub behind : Behind (place.entries + place.pending) before after
-  pub holds : (fs : List Frame) (t : Tree) → Holding words depths before place.pending place.depth place.entries fs t
-      → Holding words depths after r.pending r.depth r.entries (rest b fs) (whole b fs t)
+pub record Settled (b : ℕ) (before after : List ℕ) (writer r : Writer) : Type 0 where
+  pub total : r.entries + r.pending ≡ writer.entries + writer.pending
+  pub some : writer.entries ≤ r.entries
+  pub depth : r.depth ≡ writer.depth
+  pub behind : Behind (writer.entries + writer.pending) before after
+  pub holds : (fs : List Frame) (t : Tree) → Holding writer.stack before writer.pending writer.depth writer.entries fs t
+      → Holding r.stack after r.pending r.depth r.entries (rest b fs) (whole b fs t)
 
 -- room for one more sign
-pub record Ready (sign : Sign) (words depths table : List ℕ) (place : Place) : Type 0 where
-  pub few : place.entries + place.pending + weight sign ≤ 64
-  pub lent : 4 * (place.entries + place.pending + weight sign) ≤ length table
-  pub words_long : 64 ≤ length words
-  pub depths_long : 64 ≤ length depths
+pub record Ready (sign : Sign) (table : List ℕ) (writer : Writer) : Type 0 where
+  pub few : writer.entries + writer.pending + weight sign ≤ 64
+  pub lent : 4 * (writer.entries + writer.pending + weight sign) ≤ length table
   pub small : over sign ≡ false
-  pub shallow : place.depth ≤ 1024
+  pub shallow : writer.depth ≤ 1024
 
 -- the sign was taken
-pub record Took (sign : Sign) (words depths before words' depths' after : List ℕ) (place r : Place) : Type 0 where
-  pub total : r.entries + r.pending ≡ place.entries + place.pending + weight sign
-  pub behind : Behind (place.entries + place.pending + weight sign) before after
-  pub as_long : (length words' ≡ length words) × (length depths' ≡ length depths)
-  pub shallow : r.depth ≤ place.depth + 1
-  pub holds : (σ : State) → At words depths before place.pending place.depth place.entries σ → (step σ sign ≡ failed → ⊥)
-      → At words' depths' after r.pending r.depth r.entries (step σ sign)
+pub record Took (sign : Sign) (before after : List ℕ) (writer r : Writer) : Type 0 where
+  pub total : r.entries + r.pending ≡ writer.entries + writer.pending + weight sign
+  pub behind : Behind (writer.entries + writer.pending + weight sign) before after
+  pub shallow : r.depth ≤ writer.depth + 1
+  pub holds : (σ : State) → At writer.stack before writer.pending writer.depth writer.entries σ → (step σ sign ≡ failed → ⊥)
+      → At r.stack after r.pending r.depth r.entries (step σ sign)
 
 -- a state that the sign does not fail
-pub record Goes (sign : Sign) (words depths table : List ℕ) (place : Place) : Type 0 where
+pub record Goes (sign : Sign) (table : List ℕ) (writer : Writer) : Type 0 where
   pub state : State
-  pub at : At words depths table place.pending place.depth place.entries state
+  pub at : At writer.stack table writer.pending writer.depth writer.entries state
   pub goes : step state sign ≡ failed → ⊥

@@ -8,7 +8,7 @@ pub mod pending;
 pub mod writing;
 
 use faults::Fault;
-use survey::{Surveyed, survey};
+use survey::survey;
 use writing::write;
 
 // The longest text, in bytes, and the most entries of a table.
@@ -16,40 +16,26 @@ const MAX_BYTES: usize = 1024;
 
 const MAX_ENTRIES: usize = 64;
 
-// What reading a text answers: how many entries were written, or why none were.
-#[derive(Clone, Copy)]
-pub enum Reading {
-    Entries(usize),
-    Refused(Fault),
-}
-
 // Whether a text that has a tree is over a limit: 12.
 fn is_over(bytes: usize, entries: usize, over: bool) -> bool
     ensures { result ≡ ltb 1024 bytes || over || ltb 64 entries }
 {
-    if MAX_BYTES < bytes {
-        return true;
-    }
-    if over {
-        return true;
-    }
-    MAX_ENTRIES < entries
+    MAX_BYTES < bytes || over || MAX_ENTRIES < entries
 }
 
-// Writes the table of a text: a fault is found before anything is written.
-pub fn read(text: &[u8], table: &mut [u8]) -> Reading
+// Writes the table of a text, and answers how many entries it has: a fault is found before anything is written.
+pub fn read(text: &[u8], table: &mut [u8]) -> Result<usize, Fault>
     ensures { ReadingIs text.now table.old table.new result }
 {
-    let found = survey(text);
-    let Surveyed::Inside(entries, over) = found else {
-        return Reading::Refused(Fault::TextGrammar);
+    let Some(counted) = survey(text) else {
+        return Err(Fault::TextGrammar);
     };
-    if is_over(text.len(), entries, over) {
-        return Reading::Refused(Fault::TextLimit);
+    if is_over(text.len(), counted.entries, counted.over) {
+        return Err(Fault::TextLimit);
     }
-    if table.len() < 4 * entries {
-        return Reading::Refused(Fault::Space);
+    if table.len() < 4 * counted.entries {
+        return Err(Fault::Space);
     }
     write(text, table);
-    Reading::Entries(entries)
+    Ok(counted.entries)
 }

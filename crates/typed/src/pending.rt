@@ -1,16 +1,26 @@
 // Signs that wait for an operand while the entries of a text are written.
-ghost use Rattle.std.specs.Prelude.{◌≡◌, false, ◌+◌, ◌<◌, ◌≤◌, length};
-ghost use Rattle.table.specs.Entry.{Packable};
+ghost use Rattle.std.specs.Prelude.{◌≡◌, ◌+◌, ◌*◌, ◌<◌, ◌≤◌, length};
+ghost use Rattle.table.specs.Entry.{Packable, PutEntry};
 ghost use Rattle.typed.specs.Held.{rank_of};
-ghost use Rattle.typed.specs.Steps.{takes_now, closed_entry, Pushed, Room, Closed, Settled};
+ghost use Rattle.typed.specs.Steps.{Blank, takes_now, closed_entry, Pushed, Room, Closed, Settled};
 
 use table::entry;
 use table::entry::Entry;
+use table::kind::Kind;
 
-// How many entries are written, how many signs wait for an operand, and how many brackets are open.
+// A sign that waits for an operand: its packed entry, and how many brackets are open where it stands.
 #[derive(Clone, Copy)]
-pub struct Place {
+pub struct Waiting {
+    pub word: u32,
+    pub depth: u32,
+}
+
+// What a writer holds: how many entries are written, the signs that wait for an operand, how many these are, and how many brackets are
+// open.
+#[derive(Drop)]
+pub struct Writer {
     pub entries: usize,
+    pub stack: [Waiting; 64],
     pub pending: usize,
     pub depth: u32,
 }
@@ -19,10 +29,11 @@ pub struct Place {
 pub fn rank_of(kind: u32) -> u32
     ensures { result ≡ rank_of kind }
 {
-    match kind {
-        4 => 1,
-        5 => 0,
-        _ => 2,
+    match Kind::of(kind) {
+        Some(Kind::And) => 1,
+        Some(Kind::Or) => 0,
+        Some(Kind::True | Kind::False | Kind::Fact | Kind::Not | Kind::AtLeast | Kind::AtMost)
+        | None => 2,
     }
 }
 
@@ -30,84 +41,80 @@ pub fn rank_of(kind: u32) -> u32
 fn with_operand(e: Entry, last: u32) -> Entry
     ensures { result ≡ closed_entry e last }
 {
-    let kind = e.kind;
-    match kind {
-        4 | 5 => Entry {
-            kind: kind,
-            name: e.name,
-            first: e.first,
-            second: last,
-            grade: e.grade,
-        },
-        _ => Entry {
-            kind: kind,
-            name: e.name,
-            first: last,
-            second: e.second,
-            grade: e.grade,
-        },
+    match Kind::of(e.kind) {
+        Some(Kind::And | Kind::Or) => Entry { second: last, ..e },
+        Some(Kind::True | Kind::False | Kind::Fact | Kind::Not | Kind::AtLeast | Kind::AtMost)
+        | None => Entry { first: last, ..e },
     }
 }
 
-// Whether the last waiting sign takes an operand now: it stands at this depth, and binds at least as closely as `rank`.
-fn takes(words: &[u32], depths: &[u32], place: Place, rank: u32) -> bool
-    requires { (place.pending ≤ length words.now) × (place.pending ≤ length depths.now) }
-    ensures { result ≡ takes_now words.now depths.now place.pending place.depth rank }
-{
-    let pending = place.pending;
-    if pending == 0 {
-        return false;
+impl Writer {
+    // Nothing is written yet.
+    pub fn new() -> Writer
+        ensures { Blank result }
+    {
+        Writer {
+            entries: 0,
+            stack: [Waiting { word: 0, depth: 0 }; 64],
+            pending: 0,
+            depth: 0,
+        }
     }
-    let last = pending - 1;
-    if depths[last] != place.depth {
-        return false;
-    }
-    rank <= rank_of(Entry::unpack(words[last]).kind)
-}
 
-// One more sign waits.
-pub fn push(words: &mut [u32], depths: &mut [u32], place: Place, e: Entry) -> Place
-    requires { Packable e × (place.pending < length words.old) × (place.pending < length depths.old) × (place.pending ≤ 64) }
-    ensures { Pushed e place words.old depths.old words.new depths.new result }
-{
-    let pending = place.pending;
-    words[pending] = e.pack();
-    depths[pending] = place.depth;
-    Place {
-        entries: place.entries,
-        pending: pending + 1,
-        depth: place.depth,
+    // Whether the last waiting sign takes an operand now: it stands at this depth, and binds at least as closely as `rank`.
+    fn takes(&self, rank: u32) -> bool
+        requires { self.now.pending ≤ 64 }
+        ensures { result ≡ takes_now self.now.stack self.now.pending self.now.depth rank }
+    {
+        if self.pending == 0 {
+            return false;
+        }
+        let last = self.stack[self.pending - 1];
+        last.depth == self.depth && rank <= rank_of(Entry::unpack(last.word).kind)
     }
-}
 
-// The last waiting sign takes its operand, the last entry: its own entry is written.
-fn close(table: &mut [u8], words: &[u32], place: Place) -> Place
-    requires { Room table.old place × (place.pending ≤ length words.now) × (1 ≤ place.pending) × (1 ≤ place.entries) }
-    ensures { Closed words.now table.old table.new place result }
-{
-    let pending = place.pending - 1;
-    let entries = place.entries;
-    let last = (entries - 1) as u32;
-    entry::put(
-        table,
-        entries,
-        with_operand(Entry::unpack(words[pending]), last),
-    );
-    Place {
-        entries: entries + 1,
-        pending: pending,
-        depth: place.depth,
+    // One more sign waits.
+    pub fn push(&mut self, e: Entry)
+        requires { Packable e × (self.old.pending < 64) }
+        ensures { Pushed e self.old self.new }
+    {
+        self.stack[self.pending] = Waiting {
+            word: e.pack(),
+            depth: self.depth,
+        };
+        self.pending += 1;
     }
-}
 
-// The waiting signs of this depth that bind at least as closely as `rank` take their operands.
-pub fn settle(table: &mut [u8], words: &[u32], depths: &[u32], place: Place, rank: u32) -> Place
-    requires { Room table.old place × (64 ≤ length words.now) × (64 ≤ length depths.now) × (1 ≤ place.entries) × (rank ≤ 2) }
-    ensures { Settled rank words.now depths.now table.old table.new place result }
-{
-    let mut here = place;
-    while takes(words, depths, here, rank) {
-        here = close(table, words, here);
+    // An entry is written behind the others.
+    pub fn put(&mut self, table: &mut [u8], e: Entry)
+        requires { Packable e × (self.old.entries < 64) × (4 * self.old.entries + 4 ≤ length table.old) }
+        ensures put { PutEntry self.old.entries e table.old table.new }
+        ensures is { self.new ≡ record { entries = self.old.entries + 1; stack = self.old.stack; pending = self.old.pending; depth = self.old.depth } }
+    {
+        entry::put(table, self.entries, e);
+        self.entries += 1;
     }
-    here
+
+    // The last waiting sign takes its operand, the last entry: its own entry is written.
+    fn close(&mut self, table: &mut [u8])
+        requires { Room table.old self.old × (1 ≤ self.old.pending) × (1 ≤ self.old.entries) }
+        ensures { Closed table.old table.new self.old self.new }
+    {
+        self.pending -= 1;
+        let last = (self.entries - 1) as u32;
+        self.put(
+            table,
+            with_operand(Entry::unpack(self.stack[self.pending].word), last),
+        );
+    }
+
+    // The waiting signs of this depth that bind at least as closely as `rank` take their operands.
+    pub fn settle(&mut self, table: &mut [u8], rank: u32)
+        requires { Room table.old self.old × (1 ≤ self.old.entries) × (rank ≤ 2) }
+        ensures { Settled rank table.old table.new self.old self.new }
+    {
+        while self.takes(rank) {
+            self.close(table);
+        }
+    }
 }

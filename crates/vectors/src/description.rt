@@ -11,11 +11,10 @@ pub struct Description {
 
 // What an entry adds to G.
 fn gain(entry: u32) -> usize {
-    let kind = entry / 0x1000_0000;
-    if kind == 6 || kind == 7 {
-        return (entry % 256) as usize + 1;
+    match entry >> 28 {
+        6 | 7 => (entry % 256) as usize + 1,
+        _ => 0,
     }
-    0
 }
 
 impl Description {
@@ -36,9 +35,9 @@ impl Description {
         }
         put(&mut table, i, entry);
         Description {
-            table: table,
+            table,
             bytes: 4 * i + 4,
-            grades: std::num::wrapping_add_usize(self.grades, gain(entry)),
+            grades: self.grades.wrapping_add(gain(entry)),
         }
     }
 
@@ -53,21 +52,20 @@ impl Description {
 
     // The same bytes, so many of them.
     pub fn cut(self, bytes: usize) -> Description {
-        let table = self.table;
-        Description {
-            table: table,
-            bytes: bytes,
-            grades: self.grades,
-        }
+        Description { bytes, ..self }
+    }
+
+    // What lent bytes that all held `before` hold after the table is written into them.
+    pub fn written_over(self, before: u8) -> Room {
+        let mut room = [before; 260];
+        let bytes = self.bytes.min(260);
+        room[..bytes].copy_from_slice(&self.table[..bytes]);
+        room
     }
 
     // The number of the last entry.
     pub fn last(self) -> usize {
-        let n = self.bytes / 4;
-        if n == 0 {
-            return 0;
-        }
-        n - 1
+        (self.bytes / 4).saturating_sub(1)
     }
 
     // Document 01's W for an entry of this depth.

@@ -44,11 +44,7 @@ pub fn at_most(grade: u32, relation: u32, first: u32) -> u32 {
 // Writes entry number i, most significant bit first, where there is room for it.
 pub fn put(table: &mut Room, i: usize, entry: u32) {
     if i < 65 {
-        let at = 4 * i;
-        table[at] = (entry / 0x100_0000) as u8;
-        table[at + 1] = (entry / 0x1_0000 % 256) as u8;
-        table[at + 2] = (entry / 0x100 % 256) as u8;
-        table[at + 3] = (entry % 256) as u8;
+        table[4 * i..4 * i + 4].copy_from_slice(&entry.to_be_bytes());
     }
 }
 

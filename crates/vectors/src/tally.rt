@@ -12,10 +12,6 @@ pub struct Tally {
     right: u32,
 }
 
-fn report(out: Stdout, case: u32, got: u64, expected: u64) -> io::Result<()> {
-    println!(out; "case {case}: got {got}, expected {expected}")
-}
-
 impl Tally {
     pub fn new(out: Stdout) -> Tally {
         Tally {
@@ -29,10 +25,8 @@ impl Tally {
     // Opens a subject with its thousand.
     pub fn subject(self, thousand: u32) -> Tally {
         Tally {
-            out: self.out,
             case: thousand,
-            run: self.run,
-            right: self.right,
+            ..self
         }
     }
 
@@ -44,23 +38,16 @@ impl Tally {
     // Counts a case, and reports it if it came out differently: a report that cannot be printed leaves the count of the
     // last line. The counts stay far below where they would wrap.
     pub fn case(self, got: u64, expected: u64) -> Tally {
-        let case = std::num::wrapping_add_u32(self.case, 1);
-        let run = std::num::wrapping_add_u32(self.run, 1);
-        if got == expected {
-            let right = std::num::wrapping_add_u32(self.right, 1);
-            return Tally {
-                out: self.out,
-                case,
-                run,
-                right,
-            };
+        let case = self.case.wrapping_add(1);
+        let is_right = got == expected;
+        if !is_right {
+            let _ = println!(self.out; "case {case}: got {got}, expected {expected}");
         }
-        let _ = report(self.out, case, got, expected);
         Tally {
             out: self.out,
             case,
-            run,
-            right: self.right,
+            run: self.run.wrapping_add(1),
+            right: self.right.wrapping_add(u32::from(is_right)),
         }
     }
 

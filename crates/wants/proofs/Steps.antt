@@ -21,10 +21,9 @@ use Rattle.tableau.proofs.Rules.{not_rule, both_rule}
 use Rattle.tableau.proofs.Treated.{constant_met, fact_met, not_met, both_met, either_met, least_met, most_met}
 use Rattle.tableau.proofs.Growth.{put_grows, put_self, put_meets, put_settled}
 use Rattle.wants.specs.declared.Wants.{Wants}
-use Rattle.wants.specs.declared.Outcome.{Outcome}
 use Rattle.wants.specs.declared.Step.{Step}
-use Rattle.wants.specs.Outcome.{wanted_w, GrowsW, MeetsW, Refuted, SettledW, Asked, Taken, OutcomeIs}
-use Rattle.wants.specs.Step.{Put, PutAfter, Free, StepIs}
+use Rattle.wants.specs.Outcome.{wanted_w, GrowsW, MeetsW, Refuted, SettledW, Asked, Taken}
+use Rattle.wants.specs.Step.{Put, Free, StepIs}
 
 added_cases : (p : ℕ → Bool) (i j : ℕ) (o : Bool) → added_if o p i j ≡ true → (p j ≡ true) ⊎ (j ≡ i)
 added_cases p i j true h = ⊎_elim (λ (q : eqb j i ≡ true). inr (eqb-true j i q)) (λ (q : p j ≡ true). inl q) (one_of (eqb j i) (p j) h)
@@ -85,12 +84,9 @@ module _ {entry : ℕ → Entry} {n : ℕ} where
     -- after the last part the entry itself is put in
     last_part : {c : Bool} {i : ℕ} → Part entry b e c i → e < n → ((entry e).kind ≡ 2 → ⊥)
         → ((w₂ : Wants) → GrowsW w₁ w₂ → wanted_w w₂ c i ≡ true → rule (member w₂.yes) (member w₂.no) (member w₂.pending) b (entry e) e ≡ true)
-        → (o r : Outcome) → OutcomeIs entry n c i w₁ o → PutAfter b e o r → OutcomeIs entry n b e w r
-    last_part part inside no_fact met (Outcome.Settled w₂) (Outcome.Settled w') taken put =
+        → {w₂ w' : Wants} → Taken entry n c i w₁ w₂ → Put b false e w₂ w' → Taken entry n b e w w'
+    last_part part inside no_fact met {w₂} taken put =
         put_taken (with_part reached part taken) false inside (met w₂ taken.grows taken.has) (λ o. absurd (false≢true o)) (λ j p k. absurd (no_fact k)) put
-    last_part part inside no_fact met (Outcome.Settled w₂) Outcome.Clash taken put = absurd put
-    last_part part inside no_fact met Outcome.Clash (Outcome.Settled w') clash put = absurd put
-    last_part part inside no_fact met Outcome.Clash Outcome.Clash clash put = part_clash reached part clash
 
 -- a kind that uses both references
 both_kind_uses : (b : Bool) (k : ℕ) → k ≡ cond b 4 5 → ((uses_of k).first ≡ true) × ((uses_of k).second ≡ true)
@@ -159,9 +155,12 @@ module _ {entry : ℕ → Entry} {n e : ℕ} {w : Wants} (asked : Asked entry n 
       no_deeper = rw (step.1, depth_rule asked.formed e asked.inside) (not_depth _ _ _ step.0);
     }
 
-    pub turned_outcome : (i : ℕ) → StepIs entry n b e w (Step.Turned i)
-        → (o r : Outcome) → OutcomeIs entry n (not b) i w o → PutAfter b e o r → OutcomeIs entry n b e w r
-    turned_outcome i step =
+    pub turned_clash : (i : ℕ) → StepIs entry n b e w (Step.Turned i) → Refuted entry (not b) i w → Refuted entry b e w
+    turned_clash i step = part_clash (start asked.settled) (turned_part i step)
+
+    pub turned_taken : (i : ℕ) → StepIs entry n b e w (Step.Turned i)
+        → {w₂ w' : Wants} → Taken entry n (not b) i w w₂ → Put b false e w₂ w' → Taken entry n b e w w'
+    turned_taken i step =
         last_part (start asked.settled) (turned_part i step) asked.inside (λ k. omega (arith, step.0))
         (λ w₂ grows has. not_met _ _ _ (entry e) e b step.0 (rw step.1 at has))
 
@@ -183,8 +182,11 @@ module _ {entry : ℕ → Entry} {n e : ℕ} {w : Wants} (asked : Asked entry n 
       pub first_clash : Refuted entry b i w → Refuted entry b e w
       first_clash = part_clash (start asked.settled) first_part
 
-      pub both_outcome : {w₁ : Wants} → Taken entry n b i w w₁ → (o r : Outcome) → OutcomeIs entry n b j w₁ o → PutAfter b e o r → OutcomeIs entry n b e w r
-      both_outcome taken =
+      pub second_clash : {w₁ : Wants} → Taken entry n b i w w₁ → Refuted entry b j w₁ → Refuted entry b e w
+      second_clash taken = part_clash (with_part (start asked.settled) first_part taken) second_part
+
+      pub both_taken : {w₁ : Wants} → Taken entry n b i w w₁ → {w₂ w' : Wants} → Taken entry n b j w₁ w₂ → Put b false e w₂ w' → Taken entry n b e w w'
+      both_taken taken =
           last_part (with_part (start asked.settled) first_part taken) second_part asked.inside (both_no_fact b _ step.0)
           (λ w₂ grows has. both_met _ _ _ (entry e) e b step.0 (rw step.1 at (grows b i taken.has)) (rw step.2 at has))
 

@@ -1,17 +1,22 @@
--- What wanting one entry more comes to: settled sets that say no more and no less, or a clash that no world escapes.
-use Rattle.std.specs.Prelude.{◌≡◌, ◌⊎◌, Bool, true, ℕ, ◌<◌, ◌≤◌}
+-- What wanting one entry more comes to: settled sets that say no more and no less, or none, a clash that no world escapes.
+use Rattle.std.specs.Prelude.{◌≡◌, ◌⊎◌, Bool, true, Option, Some, None, ℕ, ◌<◌, ◌≤◌}
 use Rattle.semantics.specs.Structure.{Structure}
-use Rattle.sets.specs.Set.{member, removed}
+use Rattle.sets.specs.Set.{member, nothing, removed}
 use Rattle.table.specs.declared.entry.Entry.{Entry}
 use Rattle.table.specs.Formulas.{depth_at}
 use Rattle.table.specs.Formed.{WellFormed}
 use Rattle.tableau.specs.Wants.{truth_at, wanted, Meets, Settled, Grows}
 use Rattle.wants.specs.declared.Wants.{Wants}
-use Rattle.wants.specs.declared.Outcome.{Outcome}
 
 -- the entries wanted b
 abbrev pub wanted_w : Wants → Bool → ℕ → Bool
 wanted_w w = wanted (member w.yes) (member w.no)
+
+-- nothing is wanted
+pub record NothingWanted (w : Wants) : Type 0 where
+  pub yes : member w.yes ≡ nothing
+  pub no : member w.no ≡ nothing
+  pub pending : member w.pending ≡ nothing
 
 -- more is wanted
 abbrev pub GrowsW : Wants → Wants → Type 0
@@ -50,13 +55,10 @@ module _ (entry : ℕ → Entry) where
       pub no_deeper : (c : Bool) (i : ℕ) → wanted_w w' c i ≡ true → (wanted_w w c i ≡ true) ⊎ (depth_at entry i ≤ depth_at entry e)
 
     -- the outcome of wanting entry e to be b besides
-    abbrev pub OutcomeIs : Bool → ℕ → Wants → Outcome → Type 0
-    OutcomeIs b e w (Outcome.Settled w') = Taken b e w w'
-    OutcomeIs b e w Outcome.Clash = Refuted b e w
+    abbrev pub OutcomeIs : Bool → ℕ → Wants → Option Wants → Type 0
+    OutcomeIs b e w (Some w') = Taken b e w w'
+    OutcomeIs b e w None = Refuted b e w
 
 -- what it was, but that entry d is not pending
-abbrev pub Lightened : ℕ → Outcome → Outcome → Type 0
-Lightened d (Outcome.Settled v) (Outcome.Settled u) = (u.yes ≡ v.yes) × (u.no ≡ v.no) × (member u.pending ≡ removed (member v.pending) d)
-Lightened d (Outcome.Settled v) Outcome.Clash = ⊥
-Lightened d Outcome.Clash (Outcome.Settled u) = ⊥
-Lightened d Outcome.Clash Outcome.Clash = Unit {0}
+abbrev pub Lightened : ℕ → Wants → Wants → Type 0
+Lightened d v u = (u.yes ≡ v.yes) × (u.no ≡ v.no) × (member u.pending ≡ removed (member v.pending) d)

@@ -4,7 +4,6 @@ use Rattle.sets.specs.Set.{member}
 use Rattle.table.specs.declared.entry.Entry.{Entry}
 use Rattle.tableau.specs.Wants.{added_if, NoSameFact}
 use Rattle.wants.specs.declared.Wants.{Wants}
-use Rattle.wants.specs.declared.Outcome.{Outcome}
 use Rattle.wants.specs.declared.Step.{Step}
 use Rattle.wants.specs.Outcome.{wanted_w, Refuted, OutcomeIs}
 
@@ -13,13 +12,6 @@ pub record Put (b o : Bool) (e : ℕ) (w w' : Wants) : Type 0 where
   pub yes : member w'.yes ≡ added_if b (member w.yes) e
   pub no : member w'.no ≡ added_if (not b) (member w.no) e
   pub pending : member w'.pending ≡ added_if o (member w.pending) e
-
--- entry e is put into what the parts have come to, unless they clash
-abbrev pub PutAfter : Bool → ℕ → Outcome → Outcome → Type 0
-PutAfter b e (Outcome.Settled w) (Outcome.Settled w') = Put b false e w w'
-PutAfter b e (Outcome.Settled w) Outcome.Clash = ⊥
-PutAfter b e Outcome.Clash (Outcome.Settled w') = ⊥
-PutAfter b e Outcome.Clash Outcome.Clash = Unit {0}
 
 -- is it the fact of this name
 abbrev pub names_fact : Entry → ℕ → Bool

@@ -5,13 +5,15 @@
 
 ghost use Rattle.std.specs.Prelude.{◌≡◌, true, cond, ℕ, ◌<◌, length};
 ghost use Rattle.sets.specs.Set.{member};
+ghost use Rattle.table.specs.Kind.{kind_number};
 ghost use Rattle.semantics.specs.Answer.{Answers};
 ghost use Rattle.tableau.specs.Wants.{added_if};
 ghost use Rattle.wide.specs.Wide.{wide_in};
-ghost use Rattle.wants.specs.Outcome.{wanted_w, Asked, OutcomeIs, Lightened};
-ghost use Rattle.wants.specs.Step.{Put, PutAfter, names_fact, HasFact, ClashIs, StepIs};
+ghost use Rattle.wants.specs.Outcome.{wanted_w, NothingWanted, Asked, OutcomeIs, Lightened};
+ghost use Rattle.wants.specs.Step.{Put, names_fact, HasFact, ClashIs, StepIs};
 
-use sets::{Highest, Set};
+use sets::Set;
+use table::kind::Kind;
 use wide::wide_at;
 
 // The entries wanted true, and those wanted false. Pending are those of them of which one part is enough, while it is open which.
@@ -22,28 +24,45 @@ pub struct Wants {
     pub pending: Set,
 }
 
-// What wanting an entry besides comes to.
-#[derive(Clone, Copy)]
-pub enum Outcome {
-    // Every rule has been applied.
-    Settled(Wants),
-    // No world is as wanted.
-    Clash,
-}
+impl Wants {
+    // Nothing is wanted.
+    pub fn nothing() -> Wants
+        ensures { NothingWanted result }
+    {
+        Wants {
+            yes: Set::empty(),
+            no: Set::empty(),
+            pending: Set::empty(),
+        }
+    }
 
-impl Outcome {
+    // The entries wanted to be so.
+    pub fn wanted(self, truth: bool) -> Set
+        ensures { member result ≡ wanted_w self truth }
+    {
+        if truth { self.yes } else { self.no }
+    }
+
     // Entry d is pending no more.
-    pub fn lighten(self, d: usize) -> Outcome
+    pub fn lighten(self, d: usize) -> Wants
         ensures { Lightened d self result }
     {
-        match self {
-            Outcome::Settled(w) => {
-                let yes = w.yes;
-                let no = w.no;
-                let pending = w.pending.without(d);
-                Outcome::Settled(Wants { yes, no, pending })
-            }
-            Outcome::Clash => Outcome::Clash,
+        Wants {
+            yes: self.yes,
+            no: self.no,
+            pending: self.pending.without(d),
+        }
+    }
+
+    // Entry e is wanted to be so besides, and pending if `pending` says so.
+    fn put(self, e: usize, truth: bool, pending: bool) -> Wants
+        requires { e < 64 }
+        ensures { Put truth pending e self result }
+    {
+        Wants {
+            yes: with_if(self.yes, e, truth),
+            no: with_if(self.no, e, !truth),
+            pending: with_if(self.pending, e, pending),
         }
     }
 }
@@ -52,25 +71,29 @@ impl Outcome {
 #[derive(Clone, Copy)]
 enum Step {
     // No part comes first, or the entry was wanted before.
-    Done(Outcome),
+    Done(Option<Wants>),
     // The part is wanted the other way first.
     Turned(usize),
     // Both parts are wanted the same way first.
     Both(usize, usize),
 }
 
-// Wants entry e to be so besides.
-pub fn want(entries: &[u64], e: usize, w: Wants, truth: bool) -> Outcome
+// Wants entry e to be so besides: what is wanted once every rule has been applied, or nothing, if no world is as wanted.
+pub fn want(entries: &[u64], e: usize, w: Wants, truth: bool) -> Option<Wants>
     requires { Asked (wide_in entries.now) (length entries.now) e w }
     ensures { OutcomeIs (wide_in entries.now) (length entries.now) truth e w result }
 {
     match first_step(entries, e, w, truth) {
         Step::Done(outcome) => outcome,
-        Step::Turned(part) => put_after(want(entries, part, w, !truth), e, truth),
-        Step::Both(first, second) => match want(entries, first, w, truth) {
-            Outcome::Settled(one) => put_after(want(entries, second, one, truth), e, truth),
-            Outcome::Clash => Outcome::Clash,
-        },
+        Step::Turned(part) => {
+            let parts = want(entries, part, w, !truth)?;
+            Some(parts.put(e, truth, false))
+        }
+        Step::Both(first, second) => {
+            let one = want(entries, first, w, truth)?;
+            let both = want(entries, second, one, truth)?;
+            Some(both.put(e, truth, false))
+        }
     }
 }
 
@@ -79,31 +102,30 @@ fn first_step(entries: &[u64], e: usize, w: Wants, truth: bool) -> Step
     requires { Asked (wide_in entries.now) (length entries.now) e w }
     ensures { StepIs (wide_in entries.now) (length entries.now) truth e w result }
 {
-    if wanted(w, truth).contains(e) {
-        return Step::Done(Outcome::Settled(w));
+    if w.wanted(truth).contains(e) {
+        return Step::Done(Some(w));
     }
     if clashes(entries, e, w, truth) {
-        return Step::Done(Outcome::Clash);
+        return Step::Done(None);
     }
     let at = wide_at(entries, e);
-    let kind = at.kind;
-    // A not.
-    if kind == 3 {
+    let kind = Kind::of(at.kind);
+    if kind == Some(Kind::Not) {
         return Step::Turned(at.first as usize);
     }
-    if kind == both_kind(truth) {
+    if kind == Some(both_kind(truth)) {
         return Step::Both(at.first as usize, at.second as usize);
     }
     // One part is enough, and which is left open.
-    let pending = kind == both_kind(!truth);
-    Step::Done(Outcome::Settled(put(w, e, truth, pending)))
+    let pending = kind == Some(both_kind(!truth));
+    Step::Done(Some(w.put(e, truth, pending)))
 }
 
 // The kind that is so exactly where both parts are so: an and for true, an or for false.
-fn both_kind(truth: bool) -> u32
-    ensures { result ≡ cond truth 4 5 }
+fn both_kind(truth: bool) -> Kind
+    ensures { kind_number result ≡ cond truth 4 5 }
 {
-    if truth { 4 } else { 5 }
+    if truth { Kind::And } else { Kind::Or }
 }
 
 // Whether what is wanted, or its kind alone, stands against entry e being so.
@@ -111,27 +133,18 @@ fn clashes(entries: &[u64], e: usize, w: Wants, truth: bool) -> bool
     requires { Asked (wide_in entries.now) (length entries.now) e w }
     ensures { ClashIs (wide_in entries.now) truth e w result }
 {
-    let opposite = wanted(w, !truth);
+    let opposite = w.wanted(!truth);
     if opposite.contains(e) {
         return true;
     }
     let at = wide_at(entries, e);
-    let kind = at.kind;
-    match kind {
-        // True, false, a fact, at least so many.
-        0 => !truth,
-        1 => truth,
-        2 => has_fact(entries, opposite, at.name),
-        6 => !truth && at.grade == 0,
-        _ => false,
+    match Kind::of(at.kind) {
+        Some(Kind::True) => !truth,
+        Some(Kind::False) => truth,
+        Some(Kind::Fact) => has_fact(entries, opposite, at.name),
+        Some(Kind::AtLeast) => !truth && at.grade == 0,
+        Some(Kind::Not | Kind::And | Kind::Or | Kind::AtMost) | None => false,
     }
-}
-
-// The entries wanted to be so.
-pub fn wanted(w: Wants, truth: bool) -> Set
-    ensures { member result ≡ wanted_w w truth }
-{
-    if truth { w.yes } else { w.no }
 }
 
 // Whether an entry of the set is the fact of this name.
@@ -140,15 +153,13 @@ fn has_fact(entries: &[u64], set: Set, name: u32) -> bool
     ensures { Answers result (HasFact (wide_in entries.now) (member set) name) }
 {
     let mut rest = set;
-    loop {
-        let Highest::At(i) = rest.highest() else {
-            return false;
-        };
+    while let Some(i) = rest.highest() {
         if is_fact(entries, i, name) {
             return true;
         }
         rest = rest.without(i);
     }
+    false
 }
 
 // Whether entry i is the fact of this name.
@@ -156,32 +167,7 @@ fn is_fact(entries: &[u64], i: usize, name: u32) -> bool
     ensures { result ≡ names_fact (wide_in entries.now i) name }
 {
     let at = wide_at(entries, i);
-    let kind = at.kind;
-    let other = at.name;
-    if kind == 2 { other == name } else { false }
-}
-
-// Entry e is wanted to be so besides, and pending if `pending` says so.
-fn put(w: Wants, e: usize, truth: bool, pending: bool) -> Wants
-    requires { e < 64 }
-    ensures { Put truth pending e w result }
-{
-    Wants {
-        yes: with_if(w.yes, e, truth),
-        no: with_if(w.no, e, !truth),
-        pending: with_if(w.pending, e, pending),
-    }
-}
-
-// Puts entry e into what its parts came to, unless they clash.
-fn put_after(parts: Outcome, e: usize, truth: bool) -> Outcome
-    requires { e < 64 }
-    ensures { PutAfter truth e parts result }
-{
-    match parts {
-        Outcome::Settled(w) => Outcome::Settled(put(w, e, truth, false)),
-        Outcome::Clash => Outcome::Clash,
-    }
+    Kind::of(at.kind) == Some(Kind::Fact) && at.name == name
 }
 
 // The set with i, if `more` says so.

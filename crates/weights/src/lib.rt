@@ -7,7 +7,6 @@ ghost use Rattle.std.specs.Prelude.{◌≡◌, true, ℕ, ◌+◌, ◌<◌, ◌�
 ghost use Rattle.sets.specs.Set.{member, code};
 ghost use Rattle.tableau.specs.Search.{Extension};
 ghost use Rattle.tableau.specs.Listed.{In};
-ghost use Rattle.tableau.specs.Weights.{up};
 ghost use Rattle.counting.specs.Question.{problem_of, Small};
 ghost use Rattle.counting.specs.Stack.{slots_of, Few};
 ghost use Rattle.listed.specs.Codes.{codes_from};
@@ -17,24 +16,31 @@ pub mod range;
 
 use counting::bounds;
 use counting::question::{Question, asked};
-use packed::word_at;
-use sets::{Highest, Set};
+use packed::item_or;
+use sets::Set;
 use wide::wide_at;
-
-// A quotient, rounded up.
-fn rounded_up(x: u64, r: u64) -> u64
-    requires { (x < 4503599627370496) × (0 < r) × (r < 4294967296) }
-    ensures { result ≡ up x r }
-{
-    (x + (r - 1)) / r
-}
 
 // The weight of entry i.
 fn weight(words: &[u64], from: usize, i: usize) -> u64
     requires { (from + 64 ≤ length words.now) × (i < 64) }
     ensures { result ≡ weight_at words.now from i }
 {
-    word_at(words, from + i) % 1073741824
+    item_or(words, from + i, 0) % 1073741824
+}
+
+// The sum of a value of each member of a set.
+fn sum_over<F: Fn(usize) -> u64>(set: Set, value: F) -> u64
+    requires callable { (i : ℕ) → i < 64 → F.pre value i }
+    requires small { (i x : ℕ) → i < 64 → F.post value i x → x ≤ 4398046511104 }
+    ensures { (f : ℕ → ℕ) → ((i x : ℕ) → i < 64 → F.post value i x → x ≡ f i) → result ≡ over (member set) f }
+{
+    let mut sum = 0;
+    let mut rest = set;
+    while let Some(i) = rest.highest() {
+        sum += value(i);
+        rest = rest.without(i);
+    }
+    sum
 }
 
 // What the members of a set weigh.
@@ -42,25 +48,17 @@ fn weigh(words: &[u64], from: usize, set: Set) -> u64
     requires { from + 64 ≤ length words.now }
     ensures { (result ≡ over (member set) (weight_at words.now from)) × (result ≤ 68719476736) }
 {
-    let mut sum: u64 = 0;
-    let mut rest = set;
-    loop {
-        let Highest::At(i) = rest.highest() else {
-            return sum;
-        };
-        sum += weight(words, from, i);
-        rest = rest.without(i);
-    }
+    sum_over(set, |i| weight(words, from, i))
 }
 
 // Whether a set, rounded, serves no more of the needs than it costs of the limits.
 fn balanced(words: &[u64], from: usize, needs: Set, limits: Set, r: u64, set: Set) -> bool
-    requires { (from + 64 ≤ length words.now) × (0 < r) × (r < 4294967296) }
+    requires { (from + 64 ≤ length words.now) × (0 < r) }
     ensures { result ≡ true → Balanced words.now from (member needs) (member limits) r (code set) }
 {
     let serves = weigh(words, from, needs.intersection(set));
     let costs = weigh(words, from, limits.minus(set));
-    rounded_up(serves, r) <= costs / r
+    serves.div_ceil(r) <= costs / r
 }
 
 // Whether each of the k sets from a place on is balanced.
@@ -73,17 +71,15 @@ fn all_balanced(
     limits: Set,
     r: u64,
 ) -> bool
-    requires { (at + k ≤ length words.now) × (from + 64 ≤ length words.now) × (0 < r) × (r < 4294967296) }
+    requires { (at + k ≤ length words.now) × (from + 64 ≤ length words.now) × (0 < r) }
     ensures { result ≡ true → (c : ℕ) → In c (codes_from words.now at k)
         → Balanced words.now from (member needs) (member limits) r c }
 {
-    let mut j = 0;
-    while j < k {
-        let set = Set::of_code(word_at(words, at + j));
+    for j in 0..k {
+        let set = Set::of_code(item_or(words, at + j, 0));
         if !balanced(words, from, needs, limits, r, set) {
             return false;
         }
-        j += 1;
     }
     true
 }
@@ -105,20 +101,12 @@ fn left(entries: &[u64], words: &[u64], slots: usize, from: usize, set: Set, nee
     requires { Few words.now slots × (from + 64 ≤ length words.now) }
     ensures { (result ≡ over (member set) (left_weight entries.now words.now slots from need)) × (result ≤ 281474976710656) }
 {
-    let mut sum: u64 = 0;
-    let mut rest = set;
-    loop {
-        let Highest::At(i) = rest.highest() else {
-            return sum;
-        };
-        sum += left_at(entries, words, slots, from, i, need);
-        rest = rest.without(i);
-    }
+    sum_over(set, |i| left_at(entries, words, slots, from, i, need))
 }
 
 // Whether the weights are seen to refute that copies of the k sets from the place `at` on complete the slots. The weight of
 // entry i is the word at from + i, of which only the lower 30 bits count: no sum of them wraps. Sums are divided by r and
-// rounded; an r of 0, or of more than 32 bits, refutes nothing.
+// rounded; an r of 0 refutes nothing.
 pub fn refutes(
     entries: &[u64],
     q: Question,
@@ -136,15 +124,9 @@ pub fn refutes(
     if r == 0 {
         return false;
     }
-    if 4294967296 <= r {
-        return false;
-    }
     let needs = asked(entries, q, true);
     let limits = asked(entries, q, false);
     let lack = left(entries, words, slots, from, needs, true);
     let room = left(entries, words, slots, from, limits, false);
-    if rounded_up(lack, r) <= room / r {
-        return false;
-    }
-    all_balanced(words, at, k, from, needs, limits, r)
+    room / r < lack.div_ceil(r) && all_balanced(words, at, k, from, needs, limits, r)
 }

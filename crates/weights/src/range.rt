@@ -43,10 +43,7 @@ pub fn spans(
     let room = left(entries, words, slots, from, limits, false);
     let serves = weigh(words, from, needs.intersection(b));
     let costs = weigh(words, from, limits.minus(b));
-    if !lacking(lack, room, serves, costs, low) {
-        return false;
-    }
-    if !lacking(lack, room, serves, costs, high) {
+    if !lacking(lack, room, serves, costs, low) || !lacking(lack, room, serves, costs, high) {
         return false;
     }
     all_balanced(words, at, k, from, needs, limits, 1)

@@ -1,10 +1,8 @@
 -- Places that may stand for others: by the word there, or by the kinds of the entry there and of its parts.
 use mathlib.Core.Path.{◌≡◌, refl, sym, ap, ◌∙◌}
 use mathlib.Core.Bool.{Bool, true, false, not}
-use mathlib.Core.Logic.{◌⊎◌, ⊎_elim}
 use mathlib.Core.Logic.◌⊎◌.{inl, inr}
-use Prim.Native.Nat.{ℕ, suc, ◌-◌, ◌<◌, ◌≤◌}
-use native.Mathlib.Nat.{eq-or-lt_of_le}
+use Prim.Native.Nat.{ℕ, suc, ◌<◌, ◌≤◌}
 use native.Mathlib.Omega.{arith}
 use lib.ListN.{get_or}
 use Rattle.semantics.specs.Formula.{falsum}
@@ -14,29 +12,8 @@ use Rattle.table.specs.Check.{uses_of}
 use Rattle.table.specs.Formed.{WellFormed}
 use Rattle.table.proofs.Accepted.{formula_rule}
 use Rattle.wide.specs.Wide.{StandsFor}
-use Rattle.wide.specs.Fold.{Turned}
+use Rattle.wide.specs.Fold.{join_kind, constant_kind, Spare, Turned}
 use Rattle.wide.proofs.Standing.{stands_then, join, constant, undouble, join_turned, join_neutral, join_decided, join_same}
-
--- the kind of an "and" for true, of an "or" for false; and that of a constant
-abbrev join_kind : Bool → ℕ
-join_kind true = 4
-join_kind false = 5
-
-abbrev constant_kind : Bool → ℕ
-constant_kind true = 0
-constant_kind false = 1
-
-join_kind_is : {k : ℕ} → 4 ≤ k → k ≤ 5 → (b : Bool) × (k ≡ join_kind b)
-join_kind_is {k} low high = ⊎_elim (λ (e : k ≡ 5). (false, e)) (λ (l : k < 5). (true, omega arith)) (eq-or-lt_of_le high)
-
--- the constant that a join does without, and the one that decides it
-neutral_kind : (b : Bool) {k : ℕ} → k ≡ join_kind b → k - 4 ≡ constant_kind b
-neutral_kind true h = omega arith
-neutral_kind false h = omega arith
-
-deciding_kind : (b : Bool) {k : ℕ} → k ≡ join_kind b → 5 - k ≡ constant_kind (not b)
-deciding_kind true h = omega arith
-deciding_kind false h = omega arith
 
 module _ {entry : ℕ → Entry} {n : ℕ} (formed : WellFormed entry n) where
   -- the formula of an entry of a known kind
@@ -89,29 +66,34 @@ module _ {entry : ℕ → Entry} {r : ℕ} (formed : WellFormed entry (suc r)) w
         let uses : ((uses_of (join_kind b)).first ≡ true) × ((uses_of (join_kind b)).second ≡ true) = elim b as (λ b. ((uses_of (join_kind b)).first ≡ true) × ((uses_of (join_kind b)).second ≡ true)) [ true ↦ (refl, refl) | false ↦ (refl, refl) ] in
         ((formed r (omega arith)).first (rw kind uses.0), (formed r (omega arith)).second (rw kind uses.1))
 
-    -- part i may stand for both if the other one, j, adds nothing, if it decides, or if they are the same
-    part_stands : {i j : ℕ} → i < r → j < r → ((entry j).kind ≡ (entry r).kind - 4) ⊎ (((entry i).kind ≡ 5 - (entry r).kind) ⊎ (i ≡ j))
-        → StandsFor (formula_at entry i) (join b (formula_at entry i) (formula_at entry j))
-    part_stands hi hj (inl e) = rw (constant_at b (omega arith) (e ∙ neutral_kind b kind)) (join_neutral b _)
-    part_stands hi hj (inr (inl e)) = rw (constant_at (not b) (omega arith) (e ∙ deciding_kind b kind)) (join_decided b _)
-    part_stands hi hj (inr (inr e)) = rw e (join_same b _)
+    -- part i may stand for both if the other one, j, may be left out
+    part_stands : {i j : ℕ} → i < r → j < r → Spare b (entry j).kind (entry i).kind → StandsFor (formula_at entry i) (join b (formula_at entry i) (formula_at entry j))
+    part_stands hi hj (inl e) = rw (constant_at b (omega arith) e) (join_neutral b _)
+    part_stands hi hj (inr e) = rw (constant_at (not b) (omega arith) e) (join_decided b _)
 
-    join_first : ((entry (entry r).second).kind ≡ (entry r).kind - 4) ⊎ (((entry (entry r).first).kind ≡ 5 - (entry r).kind) ⊎ ((entry r).first ≡ (entry r).second))
-        → Turned entry (suc r) (entry r).first r
-    join_first h =
+    first_at : Spare b (entry (entry r).second).kind (entry (entry r).first).kind → Turned entry (suc r) (entry r).first r
+    first_at h =
         let l = parts_below in
         record { back = omega arith; stands = λ u. rw join_at (part_stands l.0 l.1 h) }
 
-    join_second : ((entry (entry r).first).kind ≡ (entry r).kind - 4) ⊎ (((entry (entry r).second).kind ≡ 5 - (entry r).kind) ⊎ ((entry r).second ≡ (entry r).first))
-        → Turned entry (suc r) (entry r).second r
-    join_second h =
+    second_at : Spare b (entry (entry r).first).kind (entry (entry r).second).kind → Turned entry (suc r) (entry r).second r
+    second_at h =
         let l = parts_below in
         record { back = omega arith; stands = λ u. rw join_at (stands_then (part_stands l.1 l.0 h) (join_turned b _ _)) }
 
-  -- the same, of the entries that were read
-  module _ {e left right : Entry} (here : e ≡ entry r) (at_first : left ≡ entry e.first) (at_second : right ≡ entry e.second) (low : 4 ≤ (entry r).kind) (high : (entry r).kind ≤ 5) where
-    pub first_stands : (right.kind ≡ e.kind - 4) ⊎ ((left.kind ≡ 5 - e.kind) ⊎ (e.first ≡ e.second)) → Turned entry (suc r) e.first r
-    first_stands = let known = join_kind_is low high in rw (at_first, at_second, here) (join_first known.0 known.1)
+    same_at : (entry r).first ≡ (entry r).second → Turned entry (suc r) (entry r).first r
+    same_at e =
+        let l = parts_below in
+        record { back = omega arith; stands = λ u. rw (join_at, ← e) (join_same b _) }
 
-    pub second_stands : (left.kind ≡ e.kind - 4) ⊎ ((right.kind ≡ 5 - e.kind) ⊎ (e.second ≡ e.first)) → Turned entry (suc r) e.second r
-    second_stands = let known = join_kind_is low high in rw (at_first, at_second, here) (join_second known.0 known.1)
+  -- the same, of the entries that were read
+  module _ (b : Bool) (kind : (entry r).kind ≡ join_kind b) {e : Entry} (here : e ≡ entry r) where
+    pub both_stand : e.first ≡ e.second → Turned entry (suc r) e.first r
+    both_stand = rw here (same_at b kind)
+
+    module _ {left right : Entry} (at_first : left ≡ entry e.first) (at_second : right ≡ entry e.second) where
+      pub first_stands : Spare b right.kind left.kind → Turned entry (suc r) e.first r
+      first_stands = rw (at_first, at_second, here) (first_at b kind)
+
+      pub second_stands : Spare b left.kind right.kind → Turned entry (suc r) e.second r
+      second_stands = rw (at_first, at_second, here) (second_at b kind)

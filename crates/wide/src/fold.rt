@@ -1,27 +1,21 @@
 // References turned to places that mean the same: equal parts are then the same part, and what a constant or a double
 // negation adds is read no more.
-ghost use Rattle.std.specs.Prelude.{◌≡◌, suc, ◌≤◌, get_or};
+ghost use Rattle.std.specs.Prelude.{◌≡◌, true, suc, ◌≤◌, get_or};
 ghost use Rattle.table.specs.Formed.{WellFormed};
 ghost use Rattle.wide.specs.Wide.{wide_in, FitsWide};
-ghost use Rattle.wide.specs.Fold.{Turned, Folded};
+ghost use Rattle.wide.specs.Fold.{join_kind, constant_kind, Spare, Turned, Folded};
 
 use crate::wide_at;
-use packed::word_at;
+use packed::item_or;
 use table::entry::Entry;
+use table::kind::Kind;
 
 // The first of the words up to place r that is the same as the word there.
 fn first_like(words: &[u64], r: usize) -> usize
     ensures { (result ≤ r) × (get_or words.now result 0 ≡ get_or words.now r 0) }
 {
-    let word = word_at(words, r);
-    let mut j = 0;
-    while j < r {
-        if word_at(words, j) == word {
-            return j;
-        }
-        j += 1;
-    }
-    r
+    let word = item_or(words, r, 0);
+    (0..r).find(|&j| item_or(words, j, 0) == word).unwrap_or(r)
 }
 
 // The place of a, if the "not" at place r is "not not a"; otherwise r.
@@ -31,16 +25,36 @@ fn undoubled(words: &[u64], r: usize) -> usize
 {
     let outer = wide_at(words, r);
     let inner = wide_at(words, outer.first as usize);
-    if inner.kind == 3 {
-        return inner.first as usize;
+    if let Some(Kind::Not) = Kind::of(inner.kind) {
+        inner.first as usize
+    } else {
+        r
     }
-    r
 }
 
-// The place of the part that the "and" or the "or" at place r comes to, if a part is a constant or both are the same;
+// The number of the kind of a constant.
+fn constant(truth: bool) -> u32
+    ensures { result ≡ constant_kind truth }
+{
+    if truth {
+        Kind::True.number()
+    } else {
+        Kind::False.number()
+    }
+}
+
+// Whether an "and", or else an "or", comes to its part of the other kind: this one is the constant that adds nothing, or the
+// other one is the constant that decides.
+fn spare(kind: u32, other: u32, and: bool) -> bool
+    ensures { result ≡ true → Spare and kind other }
+{
+    kind == constant(and) || other == constant(!and)
+}
+
+// The place of the part that the "and", or else the "or", at place r comes to, if a part is a constant or both are the same;
 // otherwise r.
-fn joined(words: &[u64], r: usize) -> usize
-    requires { WellFormed (wide_in words.now) (suc r) × (4 ≤ (wide_in words.now r).kind) × ((wide_in words.now r).kind ≤ 5) }
+fn joined(words: &[u64], r: usize, and: bool) -> usize
+    requires { WellFormed (wide_in words.now) (suc r) × ((wide_in words.now r).kind ≡ join_kind and) }
     ensures { Turned (wide_in words.now) (suc r) result r }
 {
     let e = wide_at(words, r);
@@ -48,19 +62,13 @@ fn joined(words: &[u64], r: usize) -> usize
     let second = e.second as usize;
     let left = wide_at(words, first).kind;
     let right = wide_at(words, second).kind;
-    // the kinds of the constant that adds nothing, and of the one that decides: true and false for an "and"
-    let neutral = e.kind - 4;
-    let deciding = 5 - e.kind;
-    if left == neutral || right == deciding {
-        return second;
+    if spare(left, right, and) {
+        second
+    } else if first == second || spare(right, left, and) {
+        first
+    } else {
+        r
     }
-    if right == neutral || left == deciding {
-        return first;
-    }
-    if first == second {
-        return first;
-    }
-    r
 }
 
 // The place that the entry at place r comes to by what its parts are.
@@ -68,11 +76,11 @@ fn simpler(words: &[u64], r: usize) -> usize
     requires { WellFormed (wide_in words.now) (suc r) }
     ensures { Turned (wide_in words.now) (suc r) result r }
 {
-    let kind = wide_at(words, r).kind;
-    match kind {
-        3 => undoubled(words, r),
-        4 | 5 => joined(words, r),
-        _ => r,
+    match Kind::of(wide_at(words, r).kind) {
+        Some(Kind::Not) => undoubled(words, r),
+        Some(Kind::And) => joined(words, r, true),
+        Some(Kind::Or) => joined(words, r, false),
+        Some(Kind::True | Kind::False | Kind::Fact | Kind::AtLeast | Kind::AtMost) | None => r,
     }
 }
 
@@ -93,13 +101,9 @@ pub fn folded(words: &[u64], n: usize, e: Entry) -> Entry
     requires { FitsWide e × WellFormed (wide_in words.now) n }
     ensures { Folded (wide_in words.now) n e result × FitsWide result }
 {
-    let first = stand_in(words, n, e.first);
-    let second = stand_in(words, n, e.second);
     Entry {
-        kind: e.kind,
-        name: e.name,
-        first,
-        second,
-        grade: e.grade,
+        first: stand_in(words, n, e.first),
+        second: stand_in(words, n, e.second),
+        ..e
     }
 }

@@ -9,7 +9,7 @@ ghost use Rattle.wide.specs.Wide.{wide_of, wide_in, FitsWide, Widened};
 pub mod fold;
 
 use crate::fold::folded;
-use packed::word_at;
+use packed::item_or;
 use table::entry;
 use table::entry::Entry;
 
@@ -31,10 +31,10 @@ fn pack(e: Entry) -> u64
     requires { FitsWide e }
     ensures { wide_of result ≡ e }
 {
-    (e.kind as u64) * 1152921504606846976
-        + (e.name as u64) * 17592186044416
-        + (e.first as u64) * 1048576
-        + (e.second as u64) * 4096
+    ((e.kind as u64) << 60)
+        + ((e.name as u64) << 44)
+        + ((e.first as u64) << 20)
+        + ((e.second as u64) << 12)
         + (e.grade as u64)
 }
 
@@ -42,7 +42,7 @@ fn pack(e: Entry) -> u64
 pub fn wide_at(entries: &[u64], i: usize) -> Entry
     ensures { result ≡ wide_in entries.now i }
 {
-    unpack(word_at(entries, i))
+    unpack(item_or(entries, i, 0))
 }
 
 // The entries of a table, each folded onto those before it, and 0 behind them.
@@ -52,11 +52,9 @@ pub fn widen(table: &[u8]) -> [u64; 64]
 {
     let n = table.len() / 4;
     let mut words = [0u64; 64];
-    let mut i = 0;
-    while i < n {
+    for i in 0..n {
         let e = entry::entry_at(table, i);
         words[i] = pack(folded(&words, i, e));
-        i += 1;
     }
     words
 }

@@ -23,14 +23,14 @@ loop-j-init c =
 shared_le : (c : goal.After-share-sum) → c.share-sum.result ≤ 65536
 shared_le c =
     let a = c.args in
-    let code = c.word_at-code.result in
-    let copies = c.word_at-copies.result % 65536 in
+    let code = c.item_or-code.result in
+    let copies = c.item_or-copies.result % 65536 in
     omega (arith, c.share-sum.ensures, gain_le (counts a.promised (bit_at code a.i)) copies)
 
 pub loop-j-preserved : goal.loop-j-preserved
 unfolding filled total
 loop-j-preserved c =
-    let shared = rw (c.word_at-code.ensures, c.word_at-copies.ensures) at c.share-sum.ensures in
+    let shared = rw (c.item_or-code.ensures, c.item_or-copies.ensures) at c.share-sum.ensures in
     (search rules, omega (arith, shared_le c), rw add-one (omega (arith, shared)))
 
 pub returns : goal.returns

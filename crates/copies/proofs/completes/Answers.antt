@@ -1,4 +1,3 @@
-use mathlib.Core.Bool.{false≢true}
 use native.Mathlib.Omega.{arith}
 use borrow.Author.Count.{below_none, below_more}
 use borrow.Author.Rules.{rules}
@@ -10,7 +9,7 @@ pub loop-i-preserved : goal.loop-i-preserved
 loop-i-preserved c =
     let inv = c.loop-i.invariant in
     let met = c.holds_at.ensures (c.if-not-holds_at.false) in
-    let kept = c.holds_at-in-loop-i.ensures (c.if-not-holds_at-2.false) in
+    let kept = c.holds_at-else-not-holds_at.ensures (c.if-not-holds_at-2.false) in
     (search rules, below_more _ _ inv.1 met, below_more _ _ inv.2 kept)
 
 pub returns : goal.returns
@@ -21,14 +20,5 @@ returns c so =
     (λ i l. inv.1 i (omega arith))
     (λ i l. inv.2 i (omega arith))
 
-pub returns-then-k-gt4294967296 : goal.returns-then-k-gt4294967296
-returns-then-k-gt4294967296 c so = absurd (false≢true so)
-
 pub loop-i-init : goal.loop-i-init
 loop-i-init c = (search rules, below_none _, below_none _)
-
-pub returns-then-not-holds_at : goal.returns-then-not-holds_at
-returns-then-not-holds_at c so = absurd (false≢true so)
-
-pub returns-then-not-holds_at-2 : goal.returns-then-not-holds_at-2
-returns-then-not-holds_at-2 c so = absurd (false≢true so)

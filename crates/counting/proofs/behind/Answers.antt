@@ -2,8 +2,8 @@
 use Rattle.counting.proofs.Standing.{behind_next, behind_last}
 use Rattle.counting.proofs.behind.Goals as goal
 
-pub returns-in-At : goal.returns-in-At
-returns-in-At c = behind_next _ (rw c.in-At.is at c.below.ensures)
+pub returns-in-Some : goal.returns-in-Some
+returns-in-Some c = behind_next _ c.in-Some.ensures
 
-pub returns-in-Nothing : goal.returns-in-Nothing
-returns-in-Nothing c = behind_last _ (rw c.in-Nothing.is at c.below.ensures) c.requires
+pub returns-in-None : goal.returns-in-None
+returns-in-None c = behind_last _ c.in-None.ensures c.requires

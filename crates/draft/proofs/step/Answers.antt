@@ -1,18 +1,13 @@
 -- `step` meets its contract: what is refused stays, what is taken makes another draft.
-use mathlib.Core.Path.{sym, ◌∙◌}
+use mathlib.Core.Path.{refl, sym, ◌∙◌}
 use borrow.Author.Rules.{rules}
 use Rattle.history.proofs.Answers.{refused_answers, taken_answers}
 use Rattle.draft.proofs.step.Goals as goal
 
-pub returns-in_default : goal.returns-in_default
-returns-in_default c =
-    refused_answers _ _ (record { entries = search rules; saved = search rules }) c.check_step-verdict.ensures c.in_default.is
+pub returns-in-Ok : goal.returns-in-Ok
+returns-in-Ok c =
+    taken_answers _ _ (record { entries = search rules; saved = search rules }) (sym c.in-Ok.is ∙ c.check_step.ensures) refl c.taken.ensures
 
-pub taken-requires : goal.taken-requires
-taken-requires c = sym c.check_step-verdict.ensures ∙ c.in-Accepted.is
-
-pub returns : goal.returns
-returns c =
-    taken_answers _ _ (record { entries = search rules; saved = search rules }) c.check_step-verdict.ensures
-    c.in-Accepted.is
-    c.taken.ensures
+pub returns-in-Err : goal.returns-in-Err
+returns-in-Err c =
+    refused_answers _ _ (record { entries = search rules; saved = search rules }) (sym c.in-Err.is ∙ c.check_step.ensures) refl

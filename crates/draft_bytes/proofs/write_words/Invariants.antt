@@ -1,10 +1,6 @@
 -- `write_words` meets its contract. The invariant: the words passed are written.
-use Prim.Native.Nat.{◌-◌, ◌≤◌}
 use Rattle.draft_bytes.specs.Table.{Words}
 use Rattle.draft_bytes.proofs.write_words.Given as goal
 
 abbrev pub invariant-loop-i : goal.invariant-loop-i
-invariant-loop-i l = (l.i ≤ l.n) × Words l.words l.i l.initial.bytes l.bytes
-
-abbrev pub decreases-loop-i : goal.decreases-loop-i
-decreases-loop-i l = l.n - l.i
+invariant-loop-i l = Words l.words l.i l.initial.bytes l.bytes

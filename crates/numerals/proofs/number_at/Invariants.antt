@@ -5,7 +5,7 @@ use Rattle.numerals.proofs.Digits.{Reading}
 use Rattle.numerals.proofs.number_at.Given as goal
 
 abbrev pub invariant-loop-digit : goal.invariant-loop-digit
-invariant-loop-digit l = Reading l.text l.at l.limit l.value l.end l.digit
+invariant-loop-digit l = Reading l.text l.at l.limit l.value l.end
 
 abbrev pub decreases-loop-digit : goal.decreases-loop-digit
 decreases-loop-digit l = length l.text - l.end

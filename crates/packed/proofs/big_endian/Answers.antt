@@ -1,5 +1,5 @@
-use mathlib.Core.Path.{◌≡◌, refl, sym}
-use Prim.Native.Nat.{◌*◌, ◌^◌, ◌≤◌, ◌<◌}
+use mathlib.Core.Path.{refl, sym}
+use Prim.Native.Nat.{◌+◌, ◌*◌, ◌^◌, ◌≤◌, ◌<◌}
 use native.Mathlib.Nat.{mul_comm, le-div_iff_mul-le, div-lt_iff_lt-mul, one-le-pow, pow-le-pow_right, lt_of_lt_of_le}
 use native.Mathlib.Numerals.{add-one}
 use native.Mathlib.Omega.{arith}
@@ -37,24 +37,10 @@ pub loop-k-preserved : goal.loop-k-preserved
 unfolding big_endian_of
 loop-k-preserved c =
     let l = c.loop-k in
-    (search rules, rw (add-one l.k) cc, rw (add-one l.k) (byte_more l.k l.invariant.2 c.byte_at.ensures.1))
-
-pub returns : goal.returns
-returns c =
-    let e : c.loop-k.k ≡ c.args.width = omega arith in
-    (rw e at c.loop-k.invariant.1, rw e at c.loop-k.invariant.2)
-
-pub overflow_mul-at : goal.overflow_mul-at
-overflow_mul-at c = let h = place c in search rules
-
-pub overflow_sub-bytes : goal.overflow_sub-bytes
-overflow_sub-bytes c = let h = place c in search rules
+    (search rules, rw (add-one l.k) cc, rw (add-one l.k) (byte_more l.k l.invariant.2 (omega (arith, c.shared_slice_known-1.given (c.args.width * c.args.i + l.k)))))
 
 pub whole-requires : goal.whole-requires
 whole-requires c = let h = place (goal.at.whole-requires c).Else-bytes-width in (search rules, omega (arith, h, c.if-width-bytes.true))
-
-pub returns-then-width-bytes : goal.returns-then-width-bytes
-returns-then-width-bytes c = c.whole.ensures
 
 pub overflow_mul-number : goal.overflow_mul-number
 overflow_mul-number c = let h = small c in search rules

@@ -30,8 +30,5 @@ bounds-bytes-at c = room c
 pub loop-k-preserved : goal.loop-k-preserved
 loop-k-preserved c = one_put _ _ _ _ c.requires.0 _ _ _ (next c)
 
-pub shape_of-bytes : goal.shape_of-bytes
-shape_of-bytes c = c.loop-k.invariant.as_long
-
 pub returns : goal.returns
 returns c = let e : c.loop-k.k ≡ 0 = omega arith in all_put _ _ _ _ _ _ (rw e at c.loop-k.invariant)

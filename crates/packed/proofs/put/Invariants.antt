@@ -4,6 +4,3 @@ use Rattle.packed.proofs.put.Given as goal
 
 abbrev pub invariant-loop-k : goal.invariant-loop-k
 invariant-loop-k l = Putting l.at l.width l.number l.initial.bytes l.k l.rest l.bytes
-
-abbrev pub decreases-loop-k : goal.decreases-loop-k
-decreases-loop-k l = l.k

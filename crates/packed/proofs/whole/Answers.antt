@@ -1,4 +1,4 @@
-use mathlib.Core.Path.{◌≡◌, refl}
+use mathlib.Core.Path.{refl}
 use Prim.Native.Nat.{◌+◌, ◌^◌, ◌≤◌, ◌<◌}
 use native.Mathlib.Nat.{pow-le-pow_right, lt_of_lt_of_le}
 use native.Mathlib.Numerals.{add-one}
@@ -32,16 +32,8 @@ loop-k-preserved c =
     let l = c.loop-k in
     (search rules, rw (add-one l.k, l.invariant.1) refl, rw (add-one l.k) (byte_more l.k l.invariant.2 (byte c)))
 
-pub returns : goal.returns
-returns c =
-    let e : c.loop-k.k ≡ c.args.width = omega arith in
-    (rw e at c.loop-k.invariant.1, rw e at c.loop-k.invariant.2)
-
 pub overflow_mul-number : goal.overflow_mul-number
 overflow_mul-number c = let h = small c in search rules
-
-pub overflow_cast-number : goal.overflow_cast-number
-overflow_cast-number c = omega (arith, byte c)
 
 pub overflow_add-number-in-loop-k : goal.overflow_add-number-in-loop-k
 overflow_add-number-in-loop-k c = let h = small (goal.at.overflow_add-number-in-loop-k c).In-loop-k in let b = byte c in search rules

@@ -5,7 +5,7 @@ use Rattle.survey.proofs.Seen.{Seen}
 use Rattle.survey.proofs.survey.Given as goal
 
 abbrev pub invariant-loop-sign : goal.invariant-loop-sign
-invariant-loop-sign l = Seen l.text l.at l.mode l.entries l.over
+invariant-loop-sign l = Seen l.text l.at l.mode l.counted
 
 abbrev pub decreases-loop-sign : goal.decreases-loop-sign
 decreases-loop-sign l = length l.text - l.at

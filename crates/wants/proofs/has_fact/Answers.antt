@@ -5,20 +5,20 @@ use Rattle.sets.specs.Set.{member}
 use Rattle.sets.proofs.Members.{left_all, left_without, count_removed}
 use Rattle.wants.proofs.has_fact.Goals as goal
 
-pub returns-in_default : goal.returns-in_default
-returns-in_default c found =
+pub returns : goal.returns
+returns c found =
     let none = rw c.in_default.is at c.highest.ensures in
     let left = c.loop-i.invariant.passing found.at found.inside found.fact in
     false≢true (ap (λ (p : ℕ → Bool). p found.at) (sym none) ∙ left)
 
 pub returns-then-is_fact : goal.returns-then-is_fact
 returns-then-is_fact c =
-    let top = rw c.in-At.is at c.highest.ensures in
+    let top = rw c.in-Some.is at c.highest.ensures in
     record { at = _; inside = c.loop-i.invariant.within _ top.here; fact = cc }
 
 pub loop-i-smaller : goal.loop-i-smaller
 loop-i-smaller c =
-    let top = rw c.in-At.is at c.highest.ensures in
+    let top = rw c.in-Some.is at c.highest.ensures in
     let rest = c.loop-i in
     rw c.without-rest.ensures (count_removed (member rest.rest) _ top.here (c.requires _ (rest.invariant.within _ top.here)))
 

@@ -1,5 +1,4 @@
 use mathlib.Core.Path.{◌≡◌, ◌∙◌}
-use mathlib.Core.Bool.{false≢true}
 use native.Mathlib.Omega.{arith}
 use borrow.Author.Count.{below_none, below_more}
 use borrow.Author.Rules.{rules}
@@ -8,7 +7,7 @@ use Rattle.weights.proofs.all_balanced.Goals as goal
 
 pub loop-j-preserved : goal.loop-j-preserved
 loop-j-preserved c =
-    let read : _ ≡ _ = c.of_code-set.ensures ∙ c.word_at.ensures in
+    let read : _ ≡ _ = c.of_code-set.ensures ∙ c.item_or.ensures in
     let here = rw read at (c.balanced.ensures (c.if-not-balanced.false)) in
     (search rules, below_more _ _ c.loop-j.invariant.1 here)
 
@@ -20,6 +19,3 @@ returns c so d listed =
 
 pub loop-j-init : goal.loop-j-init
 loop-j-init c = (search rules, below_none _)
-
-pub returns-then-not-balanced : goal.returns-then-not-balanced
-returns-then-not-balanced c so = absurd (false≢true so)

@@ -1,39 +1,12 @@
-use native.Mathlib.Omega.{arith}
-use borrow.Author.Rules.{rules}
+-- `weigh` meets its contract: each value is the weight of its entry.
+use Rattle.std.proofs.Common.{rules}
 use Rattle.sets.specs.Set.{member}
-use Rattle.weights.proofs.Sums.{adding_start, adding_end, adding_fits, adding_less, adding_next, weights_few}
+use Rattle.weights.specs.Weighed.{weight_at}
+use Rattle.weights.proofs.Sums.{weights_few}
 use Rattle.weights.proofs.weigh.Goals as goal
-use Rattle.weights.proofs.weigh.Goals.{Start}
 
-pub returns-in_default : goal.returns-in_default
-returns-in_default c =
+pub returns : goal.returns
+returns c =
     let a = c.args in
-    let none = c.in_default.ensures in
-    let all = adding_end c.loop-i.invariant none in
+    let all = c.sum_over.ensures (weight_at a.words.now a.from) (λ i x l h. search rules) in
     (all, rw all (weights_few a.words.now a.from (member a.set)))
-
-pub weight-sum-requires : goal.weight-sum-requires
-weight-sum-requires c =
-    let top = c.in-At.ensures in
-    let start = (goal.at.weight-sum-requires c).Start in
-    (start.requires, c.loop-i.invariant.inside _ top.here)
-
-pub overflow_add-sum : goal.overflow_add-sum
-overflow_add-sum c =
-    let a = c.args in
-    let top = c.in-At.ensures in
-    let few = weights_few a.words.now a.from (member a.set) in
-    omega (arith, c.weight-sum.ensures, adding_fits c.loop-i.invariant top.here, few)
-
-pub loop-i-smaller : goal.loop-i-smaller
-loop-i-smaller c =
-    let top = c.in-At.ensures in
-    rw c.without-rest.ensures (adding_less c.loop-i.invariant top.here)
-
-pub loop-i-preserved : goal.loop-i-preserved
-loop-i-preserved c =
-    let top = c.in-At.ensures in
-    rw (c.without-rest.ensures, c.weight-sum.ensures) (adding_next c.loop-i.invariant top.here)
-
-pub loop-i-init : goal.loop-i-init
-loop-i-init c = adding_start _ _ (search rules)

@@ -6,7 +6,7 @@ use Rattle.sets.specs.Set.{member, but_not}
 use Rattle.sets.specs.Word.{Greatest}
 use Rattle.table.specs.declared.entry.Entry.{Entry}
 use Rattle.wants.specs.declared.Wants.{Wants}
-use Rattle.wants.specs.declared.Outcome.{Outcome}
+use Rattle.std.specs.Prelude.{Some, None}
 use Rattle.cases.specs.World.{Ready, Waiting}
 use Rattle.cases.proofs.Splitting.{inside}
 use Rattle.cases.proofs.Forcing.{ruled_more, unseen, forced_none, forced_next, unseen_fewer}
@@ -20,23 +20,23 @@ waits ready seen rest is top = record { ready = ready; here = (unseen _ seen res
 pub loop-d-init : goal.loop-d-init
 loop-d-init c = forced_none c.requires.0
 
-pub returns-in_default : goal.returns-in_default
-returns-in_default c = c.loop-d.invariant
+pub returns : goal.returns
+returns c = c.loop-d.invariant
 
 pub force_at-requires : goal.force_at-requires
-force_at-requires c = (waits c.loop-d.invariant.ready _ _ c.minus.ensures c.in-At.ensures, ruled_more c.args.known c.loop-d.invariant c.requires.1)
+force_at-requires c = (waits c.loop-d.invariant.ready _ _ c.minus.ensures c.in-Some.ensures, ruled_more c.args.known c.loop-d.invariant c.requires.1)
 
-pub returns-in_default-force_at : goal.returns-in_default-force_at
-returns-in_default-force_at c = forced_next c.loop-d.invariant Outcome.Clash (rw c.in_default-force_at.is at c.force_at.ensures)
+pub returns-in_err-v : goal.returns-in_err-v
+returns-in_err-v c = rw c.from_residual.ensures (forced_next c.loop-d.invariant None c.in_err-v.ensures)
 
 pub with-seen-requires : goal.with-seen-requires
-with-seen-requires c = omega (arith, inside (waits c.loop-d.invariant.ready _ _ c.minus.ensures c.in-At.ensures), c.loop-d.invariant.ready.few)
+with-seen-requires c = omega (arith, inside (waits c.loop-d.invariant.ready _ _ c.minus.ensures c.in-Some.ensures), c.loop-d.invariant.ready.few)
 
 -- and it was not seen
 pub loop-d-smaller : goal.loop-d-smaller
 loop-d-smaller c =
-    let new = (unseen _ _ _ c.minus.ensures c.in-At.ensures).1 in
-    rw c.with-seen.ensures (unseen_fewer (member c.loop-d.seen) new (inside (waits c.loop-d.invariant.ready _ _ c.minus.ensures c.in-At.ensures)))
+    let new = (unseen _ _ _ c.minus.ensures c.in-Some.ensures).1 in
+    rw c.with-seen.ensures (unseen_fewer (member c.loop-d.seen) new (inside (waits c.loop-d.invariant.ready _ _ c.minus.ensures c.in-Some.ensures)))
 
 pub loop-d-preserved : goal.loop-d-preserved
-loop-d-preserved c = forced_next c.loop-d.invariant (Outcome.Settled c.in-Settled.u) c.in-Settled.ensures
+loop-d-preserved c = forced_next c.loop-d.invariant (Some c.in_ok-v.v) c.in_ok-v.ensures

@@ -10,27 +10,27 @@ told-requires c =
     let start = (goal.at.told-requires c).Start in
     rw c.wide_at-e.ensures (start.requires.0.ready.formed, (part_asked start.requires.0 (inl refl)).inside, start.requires.1)
 
-pub told-requires-in-Open : goal.told-requires-in-Open
-told-requires-in-Open c =
-    let start = (goal.at.told-requires-in-Open c).Start in
+pub told-requires-in-None : goal.told-requires-in-None
+told-requires-in-None c =
+    let start = (goal.at.told-requires-in-None c).Start in
     rw c.wide_at-e.ensures (start.requires.0.ready.formed, (part_asked start.requires.0 (inr refl)).inside, start.requires.1)
 
-pub returns-in-So : goal.returns-in-So
-returns-in-So c =
+pub returns-in-Some-true : goal.returns-in-Some-true
+returns-in-Some-true c =
     let same = c.wide_at-e.ensures in
-    rw same (inl refl, rw (c.in-So.is, same) at c.told.ensures)
+    rw same (inl refl, rw (c.in-Some-true.field-0-test, c.serves-serving.ensures, same) at c.in-Some-true.ensures)
 
-pub returns-in-Against : goal.returns-in-Against
-returns-in-Against c =
+pub returns-in-Some-false : goal.returns-in-Some-false
+returns-in-Some-false c =
     let same = c.wide_at-e.ensures in
-    rw same (inr refl, second_left c.requires.0 (rw (c.in-Against.is, same) at c.told.ensures))
+    rw same (inr refl, second_left c.requires.0 (rw (c.in-Some-false.field-0-test, c.serves-serving.ensures, same) at c.in-Some-false.ensures))
 
-pub returns-in-So-told : goal.returns-in-So-told
-returns-in-So-told c =
+pub returns-in-Some-true-told : goal.returns-in-Some-true-told
+returns-in-Some-true-told c =
     let same = c.wide_at-e.ensures in
-    rw same (inr refl, rw (c.in-So-told.is, same) at c.told-in-Open.ensures)
+    rw same (inr refl, rw (c.in-Some-true-told.field-0-test, c.serves-serving.ensures, same) at c.in-Some-true-told.ensures)
 
-pub returns-in-Against-told : goal.returns-in-Against-told
-returns-in-Against-told c =
+pub returns-in-Some-false-told : goal.returns-in-Some-false-told
+returns-in-Some-false-told c =
     let same = c.wide_at-e.ensures in
-    rw same (inl refl, first_left c.requires.0 (rw (c.in-Against-told.is, same) at c.told-in-Open.ensures))
+    rw same (inl refl, first_left c.requires.0 (rw (c.in-Some-false-told.field-0-test, c.serves-serving.ensures, same) at c.in-Some-false-told.ensures))

@@ -2,7 +2,7 @@
 use mathlib.Core.Path.{sym, ◌∙◌}
 use native.Mathlib.Omega.{arith}
 use Rattle.sets.specs.Set.{member}
-use Rattle.counting.proofs.Measures.{asks_yes, asks_no, counts_same, counts_other, left_not, left_here}
+use Rattle.counting.proofs.Measures.{asks_yes, counts_same, counts_other, left_not, left_here}
 use Rattle.counting.proofs.bounds.left_at.Goals as goal
 
 pub returns-then-not-counts : goal.returns-then-not-counts
@@ -11,13 +11,6 @@ returns-then-not-counts c =
     let a = c.args in
     let test = rw c.contains.ensures at c.counts.ensures in
     rw c.unasked.ensures (left_not _ _ _ _ a.i (λ at. counts_other a.need _ (sym test ∙ c.if-not-counts.true)))
-
-pub returns-then-not-asks : goal.returns-then-not-asks
-returns-then-not-asks c =
-    let a = c.args in
-    let test = rw c.wide_at-e.ensures at c.asks.ensures in
-    rw c.unasked-then-not-asks.ensures
-    (left_not _ _ _ _ a.i (λ at p. asks_no a.entries.now a.q a.i a.need (sym test ∙ c.if-not-asks.true) at))
 
 pub returns : goal.returns
 unfolding member
@@ -29,6 +22,3 @@ returns c =
     let asks = asks_yes a.entries.now a.q a.i a.need c.requires.0 (sym test ∙ c.if-not-asks.false) in
     rw (c.left.ensures, read)
     (left_here _ _ _ _ a.i asks (counts_same a.need _ (sym in-set ∙ c.if-not-counts.false)) (omega arith) c.requires.2)
-
-pub left-requires : goal.left-requires
-left-requires c = c.requires.1

@@ -1,10 +1,6 @@
 -- `met` meets its contract: where no need lacks anything, all are met.
-use mathlib.Core.Bool.{true≢false}
 use Rattle.counting.proofs.Measures.{met_answer}
 use Rattle.counting.proofs.bounds.met.Goals as goal
-
-pub tightest-requires : goal.tightest-requires
-tightest-requires c = (c.requires.0, λ need. absurd (true≢false need))
 
 pub returns : goal.returns
 returns c = met_answer _ _ _ _ c.requires.1 c.tightest.ensures

@@ -1,16 +1,18 @@
-use mathlib.Core.Bool.{false≢true}
-use native.Mathlib.Omega.{arith}
+-- `asked` meets its contract: what is found passed the test.
+use mathlib.Core.Path.{◌≡◌, sym, ◌∙◌}
+use Prim.Native.Nat.{ℕ, ◌<◌}
+use lib.ListN.{length}
 use borrow.Author.Rules.{rules}
+use Rattle.sets.specs.Set.{member}
+use Rattle.wide.specs.Wide.{wide_in}
+use Rattle.counting.specs.Question.{asks}
+use Rattle.counting.proofs.Measures.{asks_yes}
 use Rattle.counting.proofs.question.asked.Goals as goal
 
-pub loop-i-init : goal.loop-i-init
-loop-i-init c = (search rules, rw c.empty-found.ensures (λ i h. absurd (false≢true h)))
-
-pub with_asked-found-requires : goal.with_asked-found-requires
-with_asked-found-requires c = (c.loop-i-test.true, omega arith, c.loop-i.invariant.1)
-
-pub loop-i-preserved : goal.loop-i-preserved
-loop-i-preserved c = (search rules, c.with_asked-found.ensures)
+said : (c : goal.After-those) (i : ℕ) → i < length c.args.entries.now → member c.those.result i ≡ asks c.args.q (wide_in c.args.entries.now i) i c.args.need
+said c i l = let h = c.those.ensures.passes i l in search rules
 
 pub returns : goal.returns
-returns c = c.loop-i.invariant.1
+returns c i h =
+    let below = c.those.ensures.below i h in
+    asks_yes c.args.entries.now c.args.q i c.args.need below (sym (said c i below) ∙ h)

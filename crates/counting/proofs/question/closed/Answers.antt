@@ -1,37 +1,25 @@
-use mathlib.Core.Path.{◌≡◌, sym, ap, ◌∙◌}
-use mathlib.Core.Bool.{Bool, true, false≢true}
-use mathlib.Core.Logic.{⊎_elim}
-use Prim.Native.Nat.{ℕ}
-use native.Mathlib.Omega.{arith}
+-- `closed` meets its contract: what is found is a limit, and allows none.
+use mathlib.Core.Path.{◌≡◌, sym, ◌∙◌}
+use mathlib.Core.Bool.{true, false, ◌&&◌}
+use Prim.Native.Nat.{ℕ, ◌<◌}
 use lib.Dec.{eqb}
+use lib.ListN.{length}
 use borrow.Author.Rules.{rules}
 use borrow.Author.Tests.{eqb-true}
-use Rattle.sets.specs.Set.{added}
-use Rattle.sets.proofs.Tests.{one_of}
+use Rattle.sets.specs.Set.{member}
+use Rattle.sets.proofs.Tests.{both_parts}
+use Rattle.wide.specs.Wide.{wide_in}
+use Rattle.tableau.specs.Counting.{hi}
+use Rattle.counting.specs.Question.{asks}
+use Rattle.counting.proofs.Measures.{asks_yes}
 use Rattle.counting.proofs.question.closed.Goals as goal
-use Rattle.counting.proofs.question.closed.Goals.{then-allows_none, else-allows_none}
 
--- one more is found
-one_more : (Q : ℕ → Type 0) (p s : ℕ → Bool) (i : ℕ) → s ≡ added p i → Q i → ((j : ℕ) → p j ≡ true → Q j) → (j : ℕ) → s j ≡ true → Q j
-one_more Q p s i is here others j h =
-    ⊎_elim (λ (e : eqb j i ≡ true). rw (eqb-true j i e) here) (others j) (one_of (eqb j i) (p j) (ap (λ (t : ℕ → Bool). t j) (sym is) ∙ h))
-
-pub loop-i-preserved : goal.loop-i-preserved
-loop-i-preserved c = (
-  search rules,
-  λ j h.
-      let found = c.loop-i.invariant.1 in
-      elim c.if-allows_none.branch [
-        | then-allows_none w ↦ one_more _ _ _ _ w.with-found.ensures (c.allows_none.ensures w.if-allows_none.true) found j (rw w.found-is at h)
-        | else-allows_none w ↦ found j (rw w.found-is at h)
-      ],
-)
-
-pub loop-i-init : goal.loop-i-init
-loop-i-init c = (search rules, λ j h. absurd (false≢true (ap (λ (p : ℕ → Bool). p j) (sym c.empty-found.ensures) ∙ h)))
-
-pub with-found-requires : goal.with-found-requires
-with-found-requires c = omega (arith, c.loop-i-test.true, c.requires.few)
+said : (c : goal.After-those) (i : ℕ) → i < length c.args.entries.now
+    → member c.those.result i ≡ asks c.args.q (wide_in c.args.entries.now i) i false && eqb (hi (wide_in c.args.entries.now i)) 0
+said c i l = let h = c.those.ensures.passes i l in search rules
 
 pub returns : goal.returns
-returns c = c.loop-i.invariant.1
+returns c i h =
+    let below = c.those.ensures.below i h in
+    let (asked, none) = both_parts true _ _ (sym (said c i below) ∙ h) in
+    record { limit = asks_yes c.args.entries.now c.args.q i false below asked; none = eqb-true _ 0 none }

@@ -1,4 +1,4 @@
-use mathlib.Core.Path.{◌≡◌, refl}
+use mathlib.Core.Path.{refl}
 use Prim.Native.Nat.{◌≤◌}
 use native.Mathlib.Numerals.{add-one}
 use native.Mathlib.Omega.{arith}
@@ -19,7 +19,7 @@ share_le c =
     let a = start.args in
     let j = c.loop-j.j in
     let slot = slot_at a.words.now j in
-    let shared = rw (c.word_at-code.ensures, c.word_at-copies.ensures) at c.share-sum.ensures in
+    let shared = rw (c.item_or-code.ensures, c.item_or-copies.ensures) at c.share-sum.ensures in
     omega (
       arith,
       shared,
@@ -30,13 +30,8 @@ share_le c =
 pub loop-j-preserved : goal.loop-j-preserved
 unfolding slots_of total
 loop-j-preserved c =
-    let shared = rw (c.word_at-code.ensures, c.word_at-copies.ensures) at c.share-sum.ensures in
+    let shared = rw (c.item_or-code.ensures, c.item_or-copies.ensures) at c.share-sum.ensures in
     (search rules, omega (arith, share_le c), rw add-one (omega (arith, shared)))
-
-pub returns : goal.returns
-returns c =
-    let e : c.loop-j.j ≡ c.args.k = omega arith in
-    rw e at c.loop-j.invariant.2
 
 pub overflow_add-sum : goal.overflow_add-sum
 overflow_add-sum c = omega (arith, share_le c)

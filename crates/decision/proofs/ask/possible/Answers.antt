@@ -2,23 +2,14 @@
 use mathlib.Core.Path.{◌≡◌, ap, ◌∙◌}
 use mathlib.Core.Bool.{Bool}
 use Prim.Native.Nat.{ℕ}
-use native.Mathlib.Omega.{arith}
 use Rattle.sets.specs.Set.{member, nothing, added}
-use Rattle.decision.proofs.Question.{one_there, entry_answer}
+use Rattle.decision.proofs.Question.{entry_answer}
 use Rattle.decision.proofs.ask.possible.Goals as goal
 use Rattle.decision.proofs.ask.possible.Goals.{After-with-yes}
-
-pub with-yes-requires : goal.with-yes-requires
-with-yes-requires c = let (ready, there) = c.requires in omega (arith, ready.few, there.0)
 
 -- the set of the entry alone
 alone : (c : goal.After-with-yes) → member c.with-yes.result ≡ added nothing c.args.e
 alone c = c.with-yes.ensures ∙ ap (λ (p : ℕ → Bool). added p c.args.e) c.empty.ensures
-
-pub ask-requires : goal.ask-requires
-ask-requires c =
-    let (ready, there) = c.requires in
-    (ready, rw (alone (goal.at.ask-requires c).After-with-yes, c.empty-no.ensures) (one_there _ _ _ _ there))
 
 pub returns : goal.returns
 returns c =

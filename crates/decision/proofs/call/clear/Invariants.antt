@@ -1,10 +1,8 @@
--- `clear` meets its contract. The invariant: the words passed are 0, those behind are as before.
-use Prim.Native.Nat.{◌-◌, ◌≤◌}
-use Rattle.decision.specs.Call.{Cleared}
+-- `clear` meets its contract. The invariant: the words passed are 0.
+use Prim.Native.Nat.{ℕ, ◌<◌}
+use mathlib.Core.Path.{◌≡◌}
+use lib.ListN.{get_or}
 use Rattle.decision.proofs.call.clear.Given as goal
 
-abbrev pub invariant-loop-i : goal.invariant-loop-i
-invariant-loop-i l = (l.i ≤ l.n) × Cleared l.i l.initial.words l.words
-
-abbrev pub decreases-loop-i : goal.decreases-loop-i
-decreases-loop-i l = l.n - l.i
+abbrev pub invariant-loop-word : goal.invariant-loop-word
+invariant-loop-word l = (k : ℕ) → k < l.word-index → get_or l.word-items k 0 ≡ 0

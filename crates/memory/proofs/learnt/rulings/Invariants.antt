@@ -1,5 +1,5 @@
--- `rulings` meets its contract. The invariant: what is known is so. The measure: the slots that are left.
-use Rattle.std.proofs.Common.{ℕ, ◌-◌}
+-- `rulings` meets its contract. The invariant: what is known is so.
+use Rattle.std.proofs.Common.{ℕ}
 use Rattle.sets.specs.Set.{member}
 use Rattle.table.specs.declared.entry.Entry.{Entry}
 use Rattle.memory.specs.Memory.{Memory}
@@ -8,6 +8,3 @@ use Rattle.memory.proofs.learnt.rulings.Given as goal
 
 abbrev pub invariant-loop-slot : goal.invariant-loop-slot
 invariant-loop-slot l = (entry : ℕ → Entry) → Memory entry l.words l.from → RuledIs entry (member l.yes) (member l.no) l.known
-
-abbrev pub decreases-loop-slot : goal.decreases-loop-slot
-decreases-loop-slot l = l.learnt - l.slot

@@ -14,7 +14,7 @@ no_world : (c : goal.After-minus-more_no) (entry : ℕ → Entry) → Memory ent
     → Sat entry (member c.of_code.result) (member c.of_code-2.result) → ⊥
 no_world c entry memory =
     slot_says memory c.args.slot c.requires.0 c.of_code.result c.of_code-2.result false
-    (sym (c.of_code.ensures ∙ c.word_at-2.ensures)) (sym (c.of_code-2.ensures ∙ c.word_at-3.ensures)) (sym c.word_at.ensures ∙ c.if-word_at-ne2.false)
+    (sym (c.of_code.ensures ∙ c.item_or-2.ensures)) (sym (c.of_code-2.ensures ∙ c.item_or-3.ensures)) (sym c.item_or.ensures ∙ c.if-item_or-ne2.false)
 
 pub returns-then-is_empty : goal.returns-then-is_empty
 returns-then-is_empty c entry memory so =

@@ -3,41 +3,32 @@ use mathlib.Core.Bool.{true}
 use Rattle.sets.specs.Set.{member}
 use Rattle.sets.proofs.Members.{count_removed}
 use Rattle.promises.proofs.Promises.{promise_below}
-use Rattle.promises.proofs.Parts.{collected_none, collected_next, collected_all, part_small}
+use Rattle.promises.proofs.Parts.{collected_next, part_small}
 use Rattle.promises.proofs.promise.parts_of.Goals as goal
-use Rattle.promises.proofs.promise.parts_of.Goals.{After-wide_at-e, In-At}
-
-pub loop-i-init : goal.loop-i-init
-loop-i-init c = (collected_none c.empty-yes.ensures, collected_none c.empty-no.ensures)
-
-pub returns-in_default : goal.returns-in_default
-returns-in_default c =
-    let inv = c.loop-i.invariant in
-    let none = rw c.in_default.is at c.highest.ensures in
-    (collected_all inv.0 none, collected_all inv.1 none)
+use Rattle.promises.proofs.promise.parts_of.Goals.{After-wide_at-e, In-Some}
 
 -- the entry at hand is one of those left
-top : (c : goal.In-At) → member c.loop-i.rest c.in-At.i ≡ true
-top c = (c.in-At.ensures).here
+top : (c : goal.In-Some) → member c.loop-i.rest c.in-Some.i ≡ true
+top c = (c.in-Some.ensures).here
 
 pub with_part-yes-requires : goal.with_part-yes-requires
 with_part-yes-requires c =
-    rw c.wide_at-e.ensures (part_small c.loop-i.invariant.0 c.requires _ (top (goal.at.with_part-yes-requires c).In-At))
+    rw c.wide_at-e.ensures (part_small c.loop-i.invariant.0 c.requires _ (top (goal.at.with_part-yes-requires c).In-Some))
 
 pub with_part-no-requires : goal.with_part-no-requires
 with_part-no-requires c =
-    rw c.wide_at-e.ensures (part_small c.loop-i.invariant.0 c.requires _ (top (goal.at.with_part-no-requires c).In-At))
+    rw c.wide_at-e.ensures (part_small c.loop-i.invariant.0 c.requires _ (top (goal.at.with_part-no-requires c).In-Some))
 
 pub loop-i-smaller : goal.loop-i-smaller
 loop-i-smaller c =
-    let at = (goal.at.loop-i-smaller c).In-At in
+    let at = (goal.at.loop-i-smaller c).In-Some in
     let loop = c.loop-i in
     rw c.without-rest.ensures
     (count_removed (member loop.rest) _ (top at) (promise_below _ _ _ c.requires _ (loop.invariant.0.within _ (top at))))
 
 pub loop-i-preserved : goal.loop-i-preserved
 loop-i-preserved c =
-    let at = (goal.at.loop-i-preserved c).In-At in
+    let at = (goal.at.loop-i-preserved c).In-Some in
     let inv = c.loop-i.invariant in
     let all = c.requires in
     rw (c.without-rest.ensures, c.with_part-yes.ensures, c.with_part-no.ensures, c.wide_at-e.ensures)

@@ -3,17 +3,13 @@ use Rattle.satisfy.proofs.Sets.{first_asked, second_asked, first_clash, both_set
 use Rattle.satisfy.proofs.ask.settle.Goals as goal
 
 pub want_all-requires : goal.want_all-requires
-want_all-requires c = first_asked _ _ _ _ _ c.requires _ c.empty.ensures c.empty-2.ensures c.empty-3.ensures
+want_all-requires c = first_asked _ _ _ _ _ c.requires c.nothing.ensures
 
-pub want_all-requires-in-Settled : goal.want_all-requires-in-Settled
-want_all-requires-in-Settled c = second_asked _ _ _ _ _ c.requires (c.in-Settled.ensures).settled
+pub want_all-requires-2 : goal.want_all-requires-2
+want_all-requires-2 c = second_asked _ _ _ _ _ c.requires c.in_ok-v.ensures.settled
 
-pub returns-in-Settled : goal.returns-in-Settled
-returns-in-Settled c =
-    both_settled _ _ _ _ _ c.requires (record { yes = c.empty.result; no = c.empty-2.result; pending = c.empty-3.result }) c.empty.ensures c.empty-2.ensures
-    (c.in-Settled.ensures) c.want_all-in-Settled.result c.want_all-in-Settled.ensures
+pub returns : goal.returns
+returns c = both_settled _ _ _ _ _ c.requires c.nothing.ensures c.in_ok-v.ensures c.want_all-2.result c.want_all-2.ensures
 
-pub returns-in-Clash : goal.returns-in-Clash
-returns-in-Clash c =
-    first_clash _ _ _ _ _ c.requires (record { yes = c.empty.result; no = c.empty-2.result; pending = c.empty-3.result }) c.empty.ensures c.empty-2.ensures
-    (c.in-Clash.ensures)
+pub returns-in_err-v : goal.returns-in_err-v
+returns-in_err-v c = rw c.from_residual.ensures (first_clash _ _ _ _ _ c.requires c.nothing.ensures c.in_err-v.ensures)

@@ -5,6 +5,6 @@ use Rattle.sets.specs.Set.{member}
 use Rattle.sets.proofs.Submasks.{next_below}
 use Rattle.sets.proofs.Set.below.Goals as goal
 
-pub returns-else-b-eq0 : goal.returns-else-b-eq0
+pub returns-else-self-eq0 : goal.returns-else-self-eq0
 unfolding member
-returns-else-b-eq0 c = next_below 64 c.args.within.bits (omega arith) (search rules) c.requires
+returns-else-self-eq0 c = next_below 64 c.args.within.bits (omega arith) (search rules) c.requires

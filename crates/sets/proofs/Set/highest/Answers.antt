@@ -11,10 +11,10 @@ use Rattle.sets.proofs.Set.highest.Goals as goal
 pub overflow_sub-result : goal.overflow_sub-result
 overflow_sub-result c = omega (arith, (leading_top 64 c.args.self.bits (omega arith) (search rules)).1)
 
-pub returns-then-bits-eq0 : goal.returns-then-bits-eq0
+pub returns-then-self-eq0 : goal.returns-then-self-eq0
 unfolding member
-returns-then-bits-eq0 c = ap bit_at c.if-bits-eq0.true ∙ fun_ext bit_zero
+returns-then-self-eq0 c = ap bit_at c.if-self-eq0.true ∙ fun_ext bit_zero
 
-pub returns-else-bits-eq0 : goal.returns-else-bits-eq0
+pub returns-else-self-eq0 : goal.returns-else-self-eq0
 unfolding member
-returns-else-bits-eq0 c = highest_bit 64 (omega arith) (search rules)
+returns-else-self-eq0 c = highest_bit 64 (omega arith) (search rules)

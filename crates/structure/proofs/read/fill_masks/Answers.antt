@@ -40,6 +40,3 @@ returns c k name v t placed =
     let s = (goal.at.returns c).Start in
     let e : c.loop-i.i ≡ records s.args.bytes.now = omega arith in
     (rw e at (c.loop-i.invariant.2 k name v t placed)) ∙ all_stated s.args.bytes.now k name v t
-
-pub shape_of-masks : goal.shape_of-masks
-shape_of-masks c = c.loop-i.invariant.1

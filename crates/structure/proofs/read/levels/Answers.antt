@@ -8,9 +8,6 @@ use borrow.Author.Rules.{rules}
 use Rattle.structure.specs.Record.{record_in}
 use Rattle.structure.proofs.read.levels.Goals as goal
 
-pub loop-i-init : goal.loop-i-init
-loop-i-init c = (search rules, search rules, λ j h. absurd (omega arith))
-
 pub loop-i-preserved : goal.loop-i-preserved
 loop-i-preserved c =
     let l = c.loop-i in
@@ -25,13 +22,3 @@ loop-i-preserved c =
           (λ (b : j < l.i). omega (arith, l.invariant.2 j b, or_add_and l.bits r.result.copies, and_le_r l.bits r.result.copies))
           (eq-or-lt_of_le (omega arith)),
     )
-
-pub returns-then-bits-eq0 : goal.returns-then-bits-eq0
-returns-then-bits-eq0 c =
-    let l = c.loop-i in
-    record { some = omega arith; few = omega arith; four = λ n. absurd (n refl); all = λ i h. omega (arith, c.if-bits-eq0.true, l.invariant.2 i (omega arith)) }
-
-pub returns-else-bits-eq0 : goal.returns-else-bits-eq0
-returns-else-bits-eq0 c =
-    let l = c.loop-i in
-    record { some = omega arith; few = omega arith; four = λ n. refl; all = λ i h. omega (arith, l.invariant.1, l.invariant.2 i (omega arith)) }

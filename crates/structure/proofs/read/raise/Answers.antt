@@ -33,15 +33,8 @@ raised_next {b} {at} {t} {before} {after} raised room = record {
 first : {b at : ℕ} {masks : List ℕ} → at < length masks → Raised b at 1 masks (set masks at (bit_or (get_or masks at 0) b))
 first {b} {at} {masks} room = rw (add-zero at) at (raised_next (raised_none b at masks) (rw (add-zero at) room))
 
-pub loop-t-init : goal.loop-t-init
-loop-t-init c = (search rules, c.requires.1, refl, λ before raised. raised)
-
 same_length : (c : goal.At-loop-t) → length c.loop-t.masks ≡ length c.args.masks.now
 same_length c = c.loop-t.invariant.2 ∙ length-set c.args.masks.now _ _
-
-pub bounds-masks-at-in-loop-t : goal.bounds-masks-at-in-loop-t
-bounds-masks-at-in-loop-t c =
-    omega (arith, same_length (goal.at.bounds-masks-at-in-loop-t c).At-loop-t, c.requires.2)
 
 pub loop-t-preserved : goal.loop-t-preserved
 loop-t-preserved c =
@@ -59,6 +52,3 @@ returns c =
     let l = c.loop-t in
     let e : l.t ≡ s.args.n = omega arith in
     rw e at (l.invariant.3 s.args.masks.now (rw (one-mul, mod-eq_of_lt (pow-lt s.requires.0)) (first (omega (arith, s.requires.1, s.requires.2)))))
-
-pub shape_of-masks : goal.shape_of-masks
-shape_of-masks c = same_length (goal.at.shape_of-masks c).At-loop-t

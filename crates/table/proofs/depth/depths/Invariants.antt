@@ -1,6 +1,6 @@
 -- `depths` meets its contract. The invariant: the list holds the depths of the entries passed, and 0 behind them.
 use mathlib.Core.Path.{◌≡◌}
-use Prim.Native.Nat.{◌-◌, ◌≤◌}
+use Prim.Native.Nat.{◌≤◌}
 use lib.ListN.{length}
 use Rattle.table.specs.Entry.{entry_in}
 use Rattle.table.specs.Formulas.{Depths}
@@ -8,6 +8,3 @@ use Rattle.table.proofs.depth.depths.Given as goal
 
 abbrev pub invariant-loop-i : goal.invariant-loop-i
 invariant-loop-i l = (l.i ≤ l.n) × (length l.depth ≡ 64) × Depths (entry_in l.table) l.i l.depth
-
-abbrev pub decreases-loop-i : goal.decreases-loop-i
-decreases-loop-i l = l.n - l.i

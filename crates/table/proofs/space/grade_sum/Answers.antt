@@ -1,4 +1,4 @@
-use mathlib.Core.Path.{◌≡◌, refl}
+use mathlib.Core.Path.{◌≡◌}
 use native.Mathlib.Numerals.{add-one}
 use native.Mathlib.Omega.{arith}
 use borrow.Author.Rules.{rules}
@@ -6,15 +6,6 @@ use Rattle.table.specs.Entry.{entry_in}
 use Rattle.table.specs.Space.{weight, sum_of_grades}
 use Rattle.table.proofs.Grades.{weight_le, grade_sum_le}
 use Rattle.table.proofs.space.grade_sum.Goals as goal
-
-pub loop-i-init : goal.loop-i-init
-unfolding sum_of_grades
-loop-i-init c = (search rules, refl)
-
-pub weight_of-sum-requires : goal.weight_of-sum-requires
-weight_of-sum-requires c =
-    let g : c.entry_at.result.grade ≡ (entry_in c.args.table.now c.loop-i.i).grade = cc in
-    omega arith
 
 -- what the call says of entry i
 here : (c : goal.After-weight_of-sum)
@@ -30,8 +21,3 @@ overflow_add-sum c =
 pub loop-i-preserved : goal.loop-i-preserved
 unfolding sum_of_grades
 loop-i-preserved c = (search rules, rw add-one (omega (arith, here c)))
-
-pub returns : goal.returns
-returns c =
-    let e : c.loop-i.i ≡ c.args.n = omega arith in
-    rw e at c.loop-i.invariant.1

@@ -1,2 +1,0 @@
--- the product of two factors fits a word
-pub mod Product

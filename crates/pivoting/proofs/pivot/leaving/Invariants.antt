@@ -1,9 +1,0 @@
--- `leaving` is safe and ends. The measure is what is left to do.
-use Rattle.std.proofs.Common.{◌-◌}
-use Rattle.pivoting.proofs.pivot.leaving.Given as goal
-
-abbrev pub invariant-loop-k : goal.invariant-loop-k
-invariant-loop-k l = Unit {0}
-
-abbrev pub decreases-loop-k : goal.decreases-loop-k
-decreases-loop-k l = l.rows - l.k

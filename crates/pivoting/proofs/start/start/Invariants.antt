@@ -1,9 +1,0 @@
--- `start` is safe and ends. The invariant: the words keep their length. The measure is what is left to do.
-use Rattle.std.proofs.Common.{◌≡◌, ◌-◌, length}
-use Rattle.pivoting.proofs.start.start.Given as goal
-
-abbrev pub invariant-loop-k : goal.invariant-loop-k
-invariant-loop-k l = length l.s ≡ length l.initial.s
-
-abbrev pub decreases-loop-k : goal.decreases-loop-k
-decreases-loop-k l = l.rows - l.k

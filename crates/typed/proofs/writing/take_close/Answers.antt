@@ -1,7 +1,0 @@
--- `take_close` meets its contract.
-use mathlib.Core.Path.{refl}
-use Rattle.typed.proofs.Taking.{close_took}
-use Rattle.typed.proofs.writing.take_close.Goals as goal
-
-pub returns : goal.returns
-returns c = close_took _ _ _ _ _ _ _ _ _ c.settle-here.ensures refl c.settle.ensures

@@ -1,0 +1,8 @@
+-- `wanted` meets its contract: the test says which set it is.
+use Rattle.wants.proofs.Wants.wanted.Goals as goal
+
+pub returns-then-truth : goal.returns-then-truth
+returns-then-truth c = rw c.if-truth.true
+
+pub returns-else-truth : goal.returns-else-truth
+returns-else-truth c = rw c.if-truth.false
