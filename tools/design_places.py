@@ -63,8 +63,9 @@ report("3", "loops that step a variable by hand", [
 report("3", "while and loop", lines(r"^ *(?:while\b.*|loop) \{"))
 report("3", "for", lines(r"^ *for .* \{"))
 
-report("4", "methods and functions that give a number of a case", [
-    f"{where(f, at)} {name}" for f, at, name, params, body in all_functions if name in ("number", "code_of", "number_of")])
+report("4", "functions that give the number or the code of a case by a table of their own", [
+    f"{where(f, at)} {name}" for f, at, name, params, body in all_functions
+    if name in ("number", "code_of", "number_of") and re.search(r"=> [0-9]", body)])
 report("4", "copies of a field under its own name", lines(r"^ +let (\w+) = [\w.]+\.\1;"))
 report("4", "calls of std's arithmetic as functions", lines(r"\b(?:num|u64|u32)::(?:wrapping_\w+|count_ones|leading_zeros)\("))
 report("4", "if .. true else .. false, and returns of true or false before the end", lines(r"\{ true \} else|else \{ false \}|^        return (?:true|false);"))
@@ -85,7 +86,8 @@ for title, names in groups.items():
         if names <= set(re.findall(r"(\w+):", params))])
 
 report("6", "arrays as buffers", lines(r"\[[^\[\];]+; (?:[0-9]+|[A-Z_]+)\](?= = | \{|,$|$|;|\))"))
-report("7", "closures, impl Fn, dyn", lines(r"\|[\w, ]*\| |\bimpl Fn|\bdyn\b|: Fn\("))
+report("7", "closures handed on", lines(r"^.*[(,]\s?(?:move )?\|[\w&:, ]+\| .*$"))
+report("7", "parameters that are closures, and dyn", lines(r"\bimpl Fn|\bdyn\b|: Fn\("))
 proofs = [p for p in (root / "crates").glob("*/proofs/**/*.antt")]
 report("8", "files of proofs", [str(p.relative_to(root / "crates")) for p in proofs])
 print(f"8   {sum(p.read_text().count(chr(10)) for p in proofs):>5}  lines of proofs")
