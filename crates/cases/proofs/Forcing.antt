@@ -21,7 +21,7 @@ use Rattle.tableau.specs.Wants.{truth_at, Meets}
 use Rattle.sets.proofs.Tests.{both_parts, one_of}
 use Rattle.tableau.proofs.Rules.{not_rule}
 use Rattle.memory.specs.declared.learnt.Ruled.{Ruled}
-use Rattle.memory.specs.Learnt.{RuledIs}
+use Rattle.memory.specs.Learnt.{Never}
 use Rattle.wants.specs.declared.Wants.{Wants}
 use Rattle.wants.specs.Outcome.{wanted_w, Refuted, Asked, Taken, Lightened}
 use Rattle.sets.proofs.Members.{count_removed}
@@ -63,7 +63,7 @@ module _ {entry : ℕ → Entry} {yes no : ℕ → Bool} {s : Structure} {u : �
   also_false : truth_at entry s u i ≡ false → Meets entry s u yes (added no i)
   also_false so = record { as_wanted = elim [ true ↦ m.as_wanted true | false ↦ either_met false no (m.as_wanted false) so ] }
 
-pub learnt_ruled : {entry : ℕ → Entry} (w : Wants) {r : Ruled} → RuledIs entry (member w.yes) (member w.no) r → RuledFor entry w r
+pub learnt_ruled : {entry : ℕ → Entry} (w : Wants) {r : Ruled} → Never entry (member w.yes) (member w.no) r → RuledFor entry w r
 learnt_ruled {entry} w known true i h s u inside m =
     other true (truth_at entry s u i) (λ so. known.never_true i h (record { structure = s; world = u; inside = inside; meets = also_true m i so }))
 learnt_ruled {entry} w known false i h s u inside m =

@@ -47,10 +47,7 @@ fn informed(
     requires { Ready (wide_in entries.now) (length entries.now) w bound depth × Memory (wide_in entries.now) work.now from }
     ensures { ForcedIs (wide_in entries.now) (length entries.now) w bound depth result }
 {
-    let known = rulings(work, from, w.yes, w.no);
-    if known.out {
-        return None;
-    }
+    let known = rulings(work, from, w.yes, w.no)?;
     look(entries, w, known, bound, depth)
 }
 

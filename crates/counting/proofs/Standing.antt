@@ -1,8 +1,9 @@
 -- The search stands in the words: each move keeps it standing, and comes nearer to the end.
 -- Why: the moves are those of the search on slots; here they are made in words, whose room the sum of grades bounds.
 use mathlib.Core.Path.{◌≡◌, refl, ap, ◌∙◌}
-use mathlib.Core.Bool.{Bool, true, false}
+use mathlib.Core.Bool.{Bool}
 use mathlib.Core.List.{List, ◌∷◌}
+use Rattle.std.specs.Prelude.{Option, Some, None}
 use Prim.Native.Nat.{ℕ, suc, ◌+◌, ◌*◌, ◌-◌, ◌^◌, ◌<◌, ◌≤◌, zero-le}
 use native.Mathlib.Nat.{not-suc-le-zero}
 use native.Mathlib.Omega.{arith}
@@ -11,19 +12,20 @@ use Rattle.table.specs.Space.{sum_of_grades}
 use Rattle.table.proofs.Grades.{grade_sum_under}
 use Rattle.sets.specs.declared.Set.{Set}
 use Rattle.sets.specs.Word.{bit_at}
-use Rattle.sets.specs.Set.{member, code, Within, NextBelow}
+use Rattle.sets.specs.Set.{member, code, Within, BelowOf}
 use Rattle.wide.specs.Wide.{wide_in}
 use Rattle.tableau.specs.Search.{taken, Problem, asking, Solvable, Met, Fit, Useful, Serving, Searching, potential}
 use Rattle.tableau.proofs.Searching.{searching_start, searching_next, searching_useless, searching_unfit, searching_taken}
 use Rattle.tableau.proofs.Searching.{searching_lowered, searching_popped, searching_never, searching_found}
 use Rattle.tableau.proofs.Potential.{potential_skipped, potential_tried, potential_taken, potential_dropped, potential_lowered}
 use Rattle.tableau.proofs.Stack.{slots_bound}
+use Rattle.counting.specs.declared.Asked.{Asked}
 use Rattle.counting.specs.declared.Cursor.{Cursor}
 use Rattle.counting.specs.declared.Step.{Step}
 use Rattle.counting.specs.declared.question.Question.{Question}
 use Rattle.counting.specs.Question.{problem_of, Small}
 use Rattle.counting.specs.Stack.{slot_at, slots_of, FewCopies, Few, Put}
-use Rattle.counting.specs.Search.{untried, to_do, Standing, At, Asked, Nearer, StepIs, Behind}
+use Rattle.counting.specs.Search.{untried, trying, to_do, Standing, At, AskedIs, Nearer, StepIs, Behind}
 use Rattle.counting.proofs.Slots.{length_slots, put_slots, put_copies}
 
 -- ---- room in the words
@@ -80,14 +82,14 @@ module _ {P : Problem} {all : Set} {words : List ℕ} {k : ℕ} where
       → potential (slots_of words k) (code tried) < begun → Nearer P all words begun c
   nearer_behind {tried} {c} behind s less = record {
     at = behind.at P words s;
-    less = rw behind.same_slots (omega (arith, potential_skipped (slots_of words k) (untried c) (code tried) behind.lower, less));
+    less = rw behind.same_slots (omega (arith, potential_skipped (slots_of words k) (untried c.next) (code tried) behind.lower, less));
   }
 
--- the set that comes next below
-pub behind_next : {all tried next : Set} (slots : ℕ) → NextBelow (member all) (code tried) (code next)
-    → Behind all tried slots (record { slots = slots; next = next; more = true })
+-- the set that comes next below, or none
+pub behind_below : {all tried : Set} (slots : ℕ) (next : Option Set) → BelowOf (member all) (code tried) next
+    → Behind all tried slots (record { slots = slots; next = next })
 unfolding member
-behind_next {all} slots below = record {
+behind_below {all} slots (Some next) below = record {
   same_slots = refl;
   lower = below.smaller;
   at = λ P words s. record {
@@ -95,39 +97,34 @@ behind_next {all} slots below = record {
     within = below.within;
   };
 }
-
--- or none
-pub behind_last : {all tried : Set} (slots : ℕ) → code tried ≡ 0 → Within (member tried) (member all)
-    → Behind all tried slots (record { slots = slots; next = tried; more = false })
-behind_last slots none within = record {
+behind_below slots None none = record {
   same_slots = refl;
   lower = zero-le;
-  at = λ P words s. record { standing = rw none at s; within = within };
+  at = λ P words s. record { standing = rw none at s; within = tt };
 }
 
 -- the next set is tried
-module _ {P : Problem} {all : Set} {words : List ℕ} {c : Cursor} (more : c.more ≡ true) where
+module _ {P : Problem} {all : Set} {words : List ℕ} {slots : ℕ} {set : Set} where
   -- and passed over
-  passed : At P all words c → (Searching P (slots_of words c.slots) (suc (code c.next)) → Searching P (slots_of words c.slots) (code c.next))
-      → {r : Cursor} → Behind all c.next c.slots r → Nearer P all words (to_do words c) r
-  passed at step behind =
-      nearer_behind behind (moved step (rw more at at.standing)) (rw more (potential_tried (slots_of words c.slots) (code c.next) _ (omega arith)))
+  passed : At P all words (trying slots set) → (Searching P (slots_of words slots) (suc (code set)) → Searching P (slots_of words slots) (code set))
+      → {r : Cursor} → Behind all set slots r → Nearer P all words (to_do words (trying slots set)) r
+  passed at step behind = nearer_behind behind (moved step at.standing) (potential_tried (slots_of words slots) (code set) _ (omega arith))
 
-  pub nearer_useless : At P all words c → Useful P (slots_of words c.slots) (code c.next) 0
-      → {r : Cursor} → Behind all c.next c.slots r → Nearer P all words (to_do words c) r
+  pub nearer_useless : At P all words (trying slots set) → Useful P (slots_of words slots) (code set) 0
+      → {r : Cursor} → Behind all set slots r → Nearer P all words (to_do words (trying slots set)) r
   nearer_useless at u = passed at (searching_useless u)
 
-  pub nearer_unfit : At P all words c → (Fit P (code c.next) → ⊥)
-      → {r : Cursor} → Behind all c.next c.slots r → Nearer P all words (to_do words c) r
+  pub nearer_unfit : At P all words (trying slots set) → (Fit P (code set) → ⊥)
+      → {r : Cursor} → Behind all set slots r → Nearer P all words (to_do words (trying slots set)) r
   nearer_unfit at un = passed at (searching_unfit un)
 
 -- and taken
-pub nearer_taken : {P : Problem} {all : Set} {words after : List ℕ} {c r : Cursor} {m : ℕ} → Asked P all words c m → Fit P (code c.next)
-    → Put words c.slots (code c.next) m after → Behind all c.next (suc c.slots) r → Nearer P all after (to_do words c) r
-nearer_taken {words = words} {c = c} {m = m} asked fit put behind =
-    let s : Standing _ _ words c.slots (suc (code c.next)) = rw asked.more at asked.at.standing in
+pub nearer_taken : {P : Problem} {all : Set} {words after : List ℕ} {a : Asked} {r : Cursor} → AskedIs P all words a → Fit P (code a.set)
+    → Put words a.slots (code a.set) a.copies after → Behind all a.set (suc a.slots) r → Nearer P all after (to_do words (trying a.slots a.set)) r
+nearer_taken {words = words} {a = a} asked fit put behind =
+    let s = asked.at.standing in
     nearer_behind behind (written put asked.useful.small s.copies (searching_taken asked.positive asked.useful fit s.searching) s)
-    (rw (put_slots put, asked.more) (potential_taken (slots_of words c.slots) (code c.next) _ m (omega arith) asked.useful.small))
+    (rw (put_slots put) (potential_taken (slots_of words a.slots) (code a.set) _ a.copies (omega arith) asked.useful.small))
 
 -- the newest slot gives up a copy
 module _ {P : Problem} {all : Set} {words : List ℕ} {newest : ℕ} (s : Standing P all words (suc newest) 0) where
@@ -171,7 +168,7 @@ module _ {P : Problem} {all : Set} {words : List ℕ} {newest : ℕ} (s : Standi
 -- ---- the start, and the answers
 
 pub at_start : (P : Problem) (all : Set) (words : List ℕ) → code all < 2 ^ 64 → Small P → member all ≡ asking P
-    → 2 * sum_of_grades P.entry P.n + 2 ≤ length words → At P all words (record { slots = 0; next = all; more = true })
+    → 2 * sum_of_grades P.entry P.n + 2 ≤ length words → At P all words (trying 0 all)
 unfolding slots_of member
 at_start P all words fits small e room = record {
   standing = record {
@@ -189,7 +186,7 @@ module _ {P : Problem} {all : Set} {words : List ℕ} {c : Cursor} (at : At P al
   at_found met = searching_found P at.standing.problem.below met at.standing.searching
 
   -- no set is left to try
-  module _ (idle : c.more ≡ false) where
+  module _ (idle : c.next ≡ None) where
     pub at_newest : {k : ℕ} → c.slots ≡ suc k → Standing P all words (suc k) 0
     at_newest e = rw (idle, e) at at.standing
 
@@ -208,4 +205,4 @@ pub step_from : (P : Problem) (all : Set) (words : List ℕ) {begun before : ℕ
     → StepIs P all words before s
 step_from P all words le Step.Found h = h
 step_from P all words le Step.Failed h = h
-step_from P all words le (Step.Ask c m) h = (h.0, omega (arith, h.1))
+step_from P all words le (Step.Ask a) h = (h.0, omega (arith, h.1))

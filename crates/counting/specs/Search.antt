@@ -1,23 +1,29 @@
 -- What holds of the search between two steps, and what a step answers: a solution, none, or a set to be decided first.
-use Rattle.std.specs.Prelude.{◌≡◌, true, cond, List, ℕ, suc, ◌+◌, ◌*◌, ◌<◌, ◌≤◌, length}
+use Rattle.std.specs.Prelude.{◌≡◌, Option, Some, None, IfSome, List, ℕ, suc, ◌+◌, ◌*◌, ◌<◌, ◌≤◌, length}
 use Rattle.std.specs.declared.ops.ControlFlow.{ControlFlow}
 use Rattle.std.specs.ControlFlow.{MatchControlFlow}
 use Rattle.table.specs.Space.{sum_of_grades}
 use Rattle.sets.specs.declared.Set.{Set}
 use Rattle.sets.specs.Set.{member, code, Within}
 use Rattle.tableau.specs.Search.{Problem, asking, Searching, Solvable, Useful, potential}
+use Rattle.counting.specs.declared.Asked.{Asked}
 use Rattle.counting.specs.declared.Cursor.{Cursor}
 use Rattle.counting.specs.declared.Step.{Step}
 use Rattle.counting.specs.Question.{Small}
 use Rattle.counting.specs.Stack.{slots_of, FewCopies}
 
--- the sets that are yet to be tried are those with codes below this
-abbrev pub untried : Cursor → ℕ
-untried c = cond c.more (suc (code c.next)) 0
+-- the sets that are yet to be tried are those with codes below this, where this one is next
+abbrev pub untried : Option Set → ℕ
+untried (Some next) = suc (code next)
+untried None = 0
 
 -- what is left to be done: it falls with every turn
 abbrev pub to_do : List ℕ → Cursor → ℕ
-to_do words c = potential (slots_of words c.slots) (untried c)
+to_do words c = potential (slots_of words c.slots) (untried c.next)
+
+-- the cursor from which a set is tried
+abbrev pub trying : (slots : ℕ) → Set → Cursor
+trying slots set = record { slots = slots; next = Some set }
 
 module _ (P : Problem) (all : Set) (words : List ℕ) where
   -- k slots stand in the words, and the sets of needs and limits with codes below t are yet to be tried
@@ -30,16 +36,15 @@ module _ (P : Problem) (all : Set) (words : List ℕ) where
 
   -- the search stands at the cursor
   pub record At (c : Cursor) : Type 0 where
-    pub standing : Standing c.slots (untried c)
-    pub within : Within (member c.next) (member all)
+    pub standing : Standing c.slots (untried c.next)
+    pub within : IfSome c.next (λ set. Within (member set) (member all))
 
-  -- m copies of the cursor's next set are to be taken, if it is fit
-  pub record Asked (c : Cursor) (m : ℕ) : Type 0 where
-    pub at : At c
-    pub more : c.more ≡ true
-    pub useful : Useful P (slots_of words c.slots) (code c.next) m
-    pub positive : 0 < m
-    pub space : 2 * c.slots + 2 ≤ length words
+  -- the search stands before the set asked for: the copies of it are to be taken, if it is fit
+  pub record AskedIs (a : Asked) : Type 0 where
+    pub at : At (trying a.slots a.set)
+    pub useful : Useful P (slots_of words a.slots) (code a.set) a.copies
+    pub positive : 0 < a.copies
+    pub space : 2 * a.slots + 2 ≤ length words
 
   -- the search has come nearer to its end
   pub record Nearer (begun : ℕ) (c : Cursor) : Type 0 where
@@ -50,7 +55,7 @@ module _ (P : Problem) (all : Set) (words : List ℕ) where
   abbrev pub StepIs : (begun : ℕ) → Step → Type 0
   StepIs begun Step.Found = Solvable P
   StepIs begun Step.Failed = Solvable P → ⊥
-  StepIs begun (Step.Ask c m) = Asked c m × (to_do words c ≤ begun)
+  StepIs begun (Step.Ask a) = AskedIs a × (to_do words (trying a.slots a.set) ≤ begun)
 
   -- the search goes on, or stops with an answer
   abbrev pub TurnIs : (begun : ℕ) → ControlFlow Step Cursor → Type 0
@@ -59,5 +64,5 @@ module _ (P : Problem) (all : Set) (words : List ℕ) where
 -- the cursor behind a set that has been tried
 pub record Behind (all tried : Set) (slots : ℕ) (c : Cursor) : Type 0 where
   pub same_slots : c.slots ≡ slots
-  pub lower : untried c ≤ code tried
+  pub lower : untried c.next ≤ code tried
   pub at : (P : Problem) (words : List ℕ) → Standing P all words slots (code tried) → At P all words c

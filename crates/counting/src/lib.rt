@@ -3,14 +3,14 @@
 // answer. The stack of slots is kept in lent words.
 #![tactic(auto)]
 
-ghost use Rattle.std.specs.Prelude.{◌≡◌, true, List, ℕ, suc, ◌+◌, ◌*◌, ◌≤◌, length};
+ghost use Rattle.std.specs.Prelude.{◌≡◌, List, ℕ, suc, ◌+◌, ◌*◌, ◌≤◌, length};
 ghost use Rattle.table.specs.Space.{sum_of_grades};
 ghost use Rattle.sets.specs.Word.{bit_at};
 ghost use Rattle.sets.specs.Set.{member, code, Within};
 ghost use Rattle.tableau.specs.Search.{Problem, asking, Met, Fit, potential};
 ghost use Rattle.counting.specs.Question.{problem_of, Small};
 ghost use Rattle.counting.specs.Stack.{slots_of, slot_at};
-ghost use Rattle.counting.specs.Search.{to_do, Standing, At, Asked, Nearer, StepIs, TurnIs, Behind};
+ghost use Rattle.counting.specs.Search.{trying, to_do, Standing, At, AskedIs, Nearer, StepIs, TurnIs, Behind};
 
 pub mod bounds;
 pub mod question;
@@ -25,8 +25,16 @@ use std::ops::ControlFlow::{self, Break, Continue};
 #[derive(Clone, Copy)]
 pub struct Cursor {
     pub slots: usize,
-    pub next: Set,
-    pub more: bool,
+    pub next: Option<Set>,
+}
+
+// What the search asks, with so many slots on the stack: can the promises of the set be kept? If so, this many copies of it are
+// to be taken.
+#[derive(Clone, Copy)]
+pub struct Asked {
+    pub slots: usize,
+    pub set: Set,
+    pub copies: u64,
 }
 
 #[derive(Clone, Copy)]
@@ -35,8 +43,8 @@ pub enum Step {
     Found,
     // There is none.
     Failed,
-    // Can the promises of the cursor's next set be kept? If so, this many copies of it are to be taken.
-    Ask(Cursor, u64),
+    // It depends on this.
+    Ask(Asked),
 }
 
 // The cursor behind a set that has been tried.
@@ -44,17 +52,9 @@ fn behind(slots: usize, tried: Set, all: Set) -> Cursor
     requires { Within (member tried) (member all) }
     ensures { Behind all tried slots result }
 {
-    match tried.below(all) {
-        Some(next) => Cursor {
-            slots,
-            next,
-            more: true,
-        },
-        None => Cursor {
-            slots,
-            next: tried,
-            more: false,
-        },
+    Cursor {
+        slots,
+        next: tried.below(all),
     }
 }
 
@@ -65,8 +65,7 @@ pub fn start(all: Set) -> Cursor
 {
     Cursor {
         slots: 0,
-        next: all,
-        more: true,
+        next: Some(all),
     }
 }
 
@@ -91,16 +90,17 @@ fn attempt(
     q: Question,
     all: Set,
     words: &[u64],
-    at: Cursor,
+    slots: usize,
+    set: Set,
 ) -> ControlFlow<Step, Cursor>
-    requires { At (problem_of entries.now q) all words.now at × (at.more ≡ true) }
-    ensures { TurnIs (problem_of entries.now q) all words.now (to_do words.now at) result }
+    requires { At (problem_of entries.now q) all words.now (trying slots set) }
+    ensures { TurnIs (problem_of entries.now q) all words.now (to_do words.now (trying slots set)) result }
 {
-    let m = bounds::useful(entries, q, at.next, words, at.slots);
-    if 0 < m {
-        Break(Step::Ask(at, m))
+    let copies = bounds::useful(entries, q, set, words, slots);
+    if 0 < copies {
+        Break(Step::Ask(Asked { slots, set, copies }))
     } else {
-        Continue(behind(at.slots, at.next, all))
+        Continue(behind(slots, set, all))
     }
 }
 
@@ -118,8 +118,8 @@ fn advance(
     if bounds::met(entries, q, all, words, at.slots) {
         return Break(Step::Found);
     }
-    if at.more {
-        return attempt(entries, q, all, words, at);
+    if let Some(set) = at.next {
+        return attempt(entries, q, all, words, at.slots, set);
     }
     let Some(newest) = at.slots.checked_sub(1) else {
         return Break(Step::Failed);
@@ -141,21 +141,21 @@ pub fn search(entries: &[u64], q: Question, all: Set, words: &mut [u64], from: C
     }
 }
 
-// The set asked for is fit: m copies of it go onto the stack, and the search goes on behind it.
-pub fn take(words: &mut [u64], all: Set, asked: Cursor, m: u64) -> Cursor
-    requires { Within (member asked.next) (member all) × (2 * asked.slots + 2 ≤ length words.old) }
-    ensures { (P : Problem) → Asked P all words.old asked m → Fit P (code asked.next)
-        → Nearer P all words.new (to_do words.old asked) result }
+// The set asked for is fit: the copies of it go onto the stack, and the search goes on behind it.
+pub fn take(words: &mut [u64], all: Set, asked: Asked) -> Cursor
+    requires { Within (member asked.set) (member all) × (2 * asked.slots + 2 ≤ length words.old) }
+    ensures { (P : Problem) → AskedIs P all words.old asked → Fit P (code asked.set)
+        → Nearer P all words.new (to_do words.old (trying asked.slots asked.set)) result }
 {
-    stack::put_slot(words, asked.slots, asked.next, m);
-    behind(asked.slots + 1, asked.next, all)
+    stack::put_slot(words, asked.slots, asked.set, asked.copies);
+    behind(asked.slots + 1, asked.set, all)
 }
 
 // The set asked for is not fit: the search goes on behind it.
-pub fn skip(all: Set, asked: Cursor) -> Cursor
-    requires { Within (member asked.next) (member all) }
-    ensures { (P : Problem) (words : List ℕ) (m : ℕ) → Asked P all words asked m → (Fit P (code asked.next) → ⊥)
-        → Nearer P all words (to_do words asked) result }
+pub fn skip(all: Set, asked: Asked) -> Cursor
+    requires { Within (member asked.set) (member all) }
+    ensures { (P : Problem) (words : List ℕ) → AskedIs P all words asked → (Fit P (code asked.set) → ⊥)
+        → Nearer P all words (to_do words (trying asked.slots asked.set)) result }
 {
-    behind(asked.slots, asked.next, all)
+    behind(asked.slots, asked.set, all)
 }

@@ -1,6 +1,6 @@
 -- What the answer to one question tells of another. Fewer wants are easier to meet: a world that is as a question wants is also as any other
 -- wants whose entries are among those of the first. So where a question has no world, none has that wants all that it wants.
-use Rattle.std.proofs.Common.{◌≡◌, ℕ, Bool, true, false, not, ◌&&◌, ◌||◌, eqb, ◌⊎◌, refl, ap, inl, inr, ⊎_elim, eq-eqb, ne_eqb}
+use Rattle.std.proofs.Common.{◌≡◌, ℕ, Bool, true, false, not, ◌&&◌, ◌||◌, eqb, ◌⊎◌, Some, None, refl, ap, inl, inr, ⊎_elim, eq-eqb, ne_eqb}
 use mathlib.Core.Bool.{false≢true}
 use mathlib.Core.Logic.{by_cases}
 use native.Mathlib.Decide.{ℕ_discrete}
@@ -65,13 +65,17 @@ pub lacks_false : {entry : ℕ → Entry} {more : ℕ → Bool} (ts fs ts' fs' :
     → SatWith entry ts fs more false → ⊥
 lacks_false ts fs ts' fs' is none no_World sat = no_World (fewer_wants (nothing_lacking ts' ts none) (rw is (lacking_added fs' fs)) sat)
 
-module _ {known r : Ruled} {missing : ℕ → Bool} where
+module _ {known : Ruled} {missing : ℕ → Bool} where
+  -- nothing is missing: no world is as wanted
+  pub ruled_all : (truth : Bool) → missing ≡ nothing → MissingIs known missing truth None
+  ruled_all true none = record { ruled = λ entry ts fs so no_World sat. no_World (fewer_wants (nothing_added ts none) (λ k a. a) sat) }
+  ruled_all false none = record { ruled = λ entry ts fs so no_World sat. no_World (fewer_wants (λ k a. a) (nothing_added fs none) sat) }
+
   -- only i is missing: no world makes it so
-  module _ (i : ℕ) (only : removed missing i ≡ nothing) (same_out : r.out ≡ known.out) where
-    pub ruled_true : member r.yes ≡ added (member known.yes) i → r.no ≡ known.no → MissingIs known missing true r
+  module _ {r : Ruled} (i : ℕ) (only : removed missing i ≡ nothing) where
+    pub ruled_true : member r.yes ≡ added (member known.yes) i → r.no ≡ known.no → MissingIs known missing true (Some r)
     ruled_true more same-no = record {
       ruled = λ entry ts fs so no_World. record {
-        out = rw same_out so.out;
         never_true = λ j h sat. ⊎_elim
             (λ (e : j ≡ i). no_World (fewer_wants (one_added missing ts i only) (λ k a. a) (rw e at sat)))
             (λ (old : member known.yes j ≡ true). so.never_true j old sat)
@@ -80,10 +84,9 @@ module _ {known r : Ruled} {missing : ℕ → Bool} where
       };
     }
 
-    pub ruled_false : member r.no ≡ added (member known.no) i → r.yes ≡ known.yes → MissingIs known missing false r
+    pub ruled_false : member r.no ≡ added (member known.no) i → r.yes ≡ known.yes → MissingIs known missing false (Some r)
     ruled_false more same-yes = record {
       ruled = λ entry ts fs so no_World. record {
-        out = rw same_out so.out;
         never_true = rw same-yes so.never_true;
         never_false = λ j h sat. ⊎_elim
             (λ (e : j ≡ i). no_World (fewer_wants (λ k a. a) (one_added missing fs i only) (rw e at sat)))

@@ -6,16 +6,16 @@ ghost use Rattle.sets.specs.Set.{member};
 ghost use Rattle.table.specs.declared.entry.Entry.{Entry};
 ghost use Rattle.tableau.specs.Wants.{Sat};
 ghost use Rattle.memory.specs.Memory.{Memory, Fits, SlotsIs, Stored};
-ghost use Rattle.memory.specs.Learnt.{RuledIs, MissingIs};
+ghost use Rattle.memory.specs.Learnt.{Never, RuledIs, MissingIs};
 
 use crate::slots::{is_free, learnt_in, slots_in, spread, store};
 use packed::item_or;
 use sets::Set;
 
-// What is known of a question: that no world is as it wants, or at least none that also makes such an entry true, or false.
+// What is known of a question: no world is as it wants that also makes such an entry true, or false. Where no world is as it
+// wants at all, None stands in its place.
 #[derive(Clone, Copy)]
 pub struct Ruled {
-    pub out: bool,
     pub yes: Set,
     pub no: Set,
 }
@@ -45,37 +45,42 @@ pub fn learn(words: &mut [u64], from: usize, yes: Set, no: Set, answer: bool)
 }
 
 // What is known, with what follows where a question without a world lacks only these entries, to be so.
-fn with_missing(known: Ruled, missing: Set, truth: bool) -> Ruled
+fn with_missing(known: Ruled, missing: Set, truth: bool) -> Option<Ruled>
     ensures { MissingIs known (member missing) truth result }
 {
-    let Some(i) = missing.highest() else {
-        return Ruled { out: true, ..known };
-    };
+    let i = missing.highest()?;
     if !missing.without(i).is_empty() {
-        return known;
+        return Some(known);
     }
     if truth {
-        Ruled {
+        Some(Ruled {
             yes: known.yes.with(i),
             ..known
-        }
+        })
     } else {
-        Ruled {
+        Some(Ruled {
             no: known.no.with(i),
             ..known
-        }
+        })
     }
 }
 
 // What is known, with what follows from a slot.
-fn with_slot(words: &[u64], from: usize, slot: usize, yes: Set, no: Set, known: Ruled) -> Ruled
+fn with_slot(
+    words: &[u64],
+    from: usize,
+    slot: usize,
+    yes: Set,
+    no: Set,
+    known: Ruled,
+) -> Option<Ruled>
     requires { Fits from (length words.now) slot }
-    ensures { (entry : ℕ → Entry) → Memory entry words.now from → RuledIs entry (member yes) (member no) known
+    ensures { (entry : ℕ → Entry) → Memory entry words.now from → Never entry (member yes) (member no) known
         → RuledIs entry (member yes) (member no) result }
 {
     let at = from + 3 * slot;
     if item_or(words, at + 2, 0) != 2 {
-        return known;
+        return Some(known);
     }
     let more_yes = Set::of_code(item_or(words, at, 0)).minus(yes);
     let more_no = Set::of_code(item_or(words, at + 1, 0)).minus(no);
@@ -85,26 +90,25 @@ fn with_slot(words: &[u64], from: usize, slot: usize, yes: Set, no: Set, known: 
     if more_yes.is_empty() {
         return with_missing(known, more_no, false);
     }
-    known
+    Some(known)
 }
 
 // What the learnt questions without a world tell of a question.
-pub fn rulings(words: &[u64], from: usize, yes: Set, no: Set) -> Ruled
+pub fn rulings(words: &[u64], from: usize, yes: Set, no: Set) -> Option<Ruled>
     ensures { (entry : ℕ → Entry) → Memory entry words.now from → RuledIs entry (member yes) (member no) result }
 {
     let learnt = learnt_in(slots_in(words.len(), from));
     let mut known = Ruled {
-        out: false,
         yes: Set::empty(),
         no: Set::empty(),
     };
     for slot in 0..learnt {
         if is_free(words, from, slot) {
-            return known;
+            return Some(known);
         }
-        known = with_slot(words, from, slot, yes, no, known);
+        known = with_slot(words, from, slot, yes, no, known)?;
     }
-    known
+    Some(known)
 }
 
 // Whether the world of a slot's question, if it has one, is as another question wants.

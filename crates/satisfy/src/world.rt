@@ -452,12 +452,12 @@ fn probe(entries: &[u64], q: Question, all: Set, level: Level, work: &mut [u64])
         match search(entries, q, all, &mut work[..level.size], at) {
             Step::Found => return true,
             Step::Failed => return false,
-            Step::Ask(asked, m) => {
-                if keeps(entries, q, asked.next, level, work) {
-                    at = take(&mut work[..level.size], all, asked, m);
+            Step::Ask(asked) => {
+                at = if keeps(entries, q, asked.set, level, work) {
+                    take(&mut work[..level.size], all, asked)
                 } else {
-                    at = skip(all, asked);
-                }
+                    skip(all, asked)
+                };
             }
         }
     }

@@ -1,9 +1,6 @@
 -- `behind` meets its contract: the set that comes next below, or none.
-use Rattle.counting.proofs.Standing.{behind_next, behind_last}
+use Rattle.counting.proofs.Standing.{behind_below}
 use Rattle.counting.proofs.behind.Goals as goal
 
-pub returns-in-Some : goal.returns-in-Some
-returns-in-Some c = behind_next _ c.in-Some.ensures
-
-pub returns-in-None : goal.returns-in-None
-returns-in-None c = behind_last _ c.in-None.ensures c.requires
+pub returns : goal.returns
+returns c = behind_below _ _ c.below.ensures

@@ -3,4 +3,4 @@ use Rattle.counting.proofs.Standing.{nearer_unfit}
 use Rattle.counting.proofs.skip.Goals as goal
 
 pub returns : goal.returns
-returns c P words m asked un = nearer_unfit asked.more asked.at un c.behind.ensures
+returns c P words asked un = nearer_unfit asked.at un c.behind.ensures

@@ -13,7 +13,7 @@ use Rattle.sets.specs.Set.{member, Within, either, nothing, code}
 use Rattle.sets.specs.Word.{Greatest}
 use Rattle.wide.specs.Wide.{wide_in}
 use Rattle.counting.specs.Question.{problem_of, Closed}
-use Rattle.counting.specs.Search.{Asked, Nearer, to_do}
+use Rattle.counting.specs.Search.{AskedIs, Nearer, to_do, trying}
 use Rattle.cases.specs.World.{SatW, Branch}
 use Rattle.cases.specs.Levels.{Roomy, Remembers, list_room}
 use Rattle.promises.specs.Promise.{Promised}
@@ -1050,8 +1050,8 @@ probe-returns-in-Failed t c = (c.in-Failed.ensures, search_memory t (goal.at.pro
 
 -- what the search has asked for
 told : (t : ℕ) (c : goal.probe-In-Ask t)
-    → Asked (problem_of c.args.entries.now c.args.q) c.args.all c.search.new.words c.in-Ask.asked c.in-Ask.m
-    × (to_do c.search.new.words c.in-Ask.asked ≤ to_do (take c.args.level.size c.loop-asked.work) c.loop-asked.at)
+    → AskedIs (problem_of c.args.entries.now c.args.q) c.args.all c.search.new.words c.in-Ask.asked
+    × (to_do c.search.new.words (trying c.in-Ask.asked.slots c.in-Ask.asked.set) ≤ to_do (take c.args.level.size c.loop-asked.work) c.loop-asked.at)
 told t c = c.in-Ask.ensures
 
 pub probe-keeps-requires : goal.probe-keeps-requires
@@ -1077,11 +1077,11 @@ keeps_fits t c =
     room_level (room_kept (c.keeps.auto.work ∙ length_front c.loop-asked.work c.search.new.words c.args.level.size c.search.auto.words ∙ c.loop-asked.invariant.1) c.requires.room)
 
 behind_keeps : (t : ℕ) (c : goal.probe-After-keeps t)
-    → Asked (problem_of c.args.entries.now c.args.q) c.args.all (take c.args.level.size c.keeps.new.work) c.in-Ask.asked c.in-Ask.m
+    → AskedIs (problem_of c.args.entries.now c.args.q) c.args.all (take c.args.level.size c.keeps.new.work) c.in-Ask.asked
 behind_keeps t c = rw (keeps_front t c) c.in-Ask.ensures.0
 
 keeps_to_do : (t : ℕ) (c : goal.probe-After-keeps t)
-    → to_do (take c.args.level.size c.keeps.new.work) c.in-Ask.asked ≤ to_do (take c.args.level.size c.loop-asked.work) c.loop-asked.at
+    → to_do (take c.args.level.size c.keeps.new.work) (trying c.in-Ask.asked.slots c.in-Ask.asked.set) ≤ to_do (take c.args.level.size c.loop-asked.work) c.loop-asked.at
 keeps_to_do t c = rw (keeps_front t c) c.in-Ask.ensures.1
 
 pub probe-slice_bounds-take-end : goal.probe-slice_bounds-take-end
@@ -1095,8 +1095,8 @@ probe-take-at-requires t c = ((told t (goal.at.probe-take-at-requires t c).In-As
 
 -- behind a set that can be kept
 behind_take : (t : ℕ) (c : goal.probe-After-take-at t)
-    → Asked (problem_of c.args.entries.now c.args.q) c.args.all (take c.args.level.size c.keeps.new.work) c.in-Ask.asked c.in-Ask.m
-    → Nearer (problem_of c.args.entries.now c.args.q) c.args.all c.take-at.new.words (to_do (take c.args.level.size c.keeps.new.work) c.in-Ask.asked) c.take-at.result
+    → AskedIs (problem_of c.args.entries.now c.args.q) c.args.all (take c.args.level.size c.keeps.new.work) c.in-Ask.asked
+    → Nearer (problem_of c.args.entries.now c.args.q) c.args.all c.take-at.new.words (to_do (take c.args.level.size c.keeps.new.work) (trying c.in-Ask.asked.slots c.in-Ask.asked.set)) c.take-at.result
 behind_take t c asked = c.take-at.ensures (problem_of c.args.entries.now c.args.q) asked (rw c.if-keeps.true at c.keeps.ensures.answers)
 
 taken_level : (t : ℕ) (c : goal.probe-After-take-at t) → c.args.level.size ≤ length c.keeps.new.work → length c.take-at.new.words ≡ c.args.level.size
@@ -1121,9 +1121,9 @@ probe-skip-at-requires t c = (told t (goal.at.probe-skip-at-requires t c).In-Ask
 
 -- behind a set that cannot be kept
 behind_skip : (t : ℕ) (c : goal.probe-After-skip-at t)
-    → Asked (problem_of c.args.entries.now c.args.q) c.args.all (take c.args.level.size c.keeps.new.work) c.in-Ask.asked c.in-Ask.m
-    → Nearer (problem_of c.args.entries.now c.args.q) c.args.all (take c.args.level.size c.keeps.new.work) (to_do (take c.args.level.size c.keeps.new.work) c.in-Ask.asked) c.skip-at.result
-behind_skip t c asked = c.skip-at.ensures (problem_of c.args.entries.now c.args.q) (take c.args.level.size c.keeps.new.work) c.in-Ask.m asked (rw c.if-keeps.false at c.keeps.ensures.answers)
+    → AskedIs (problem_of c.args.entries.now c.args.q) c.args.all (take c.args.level.size c.keeps.new.work) c.in-Ask.asked
+    → Nearer (problem_of c.args.entries.now c.args.q) c.args.all (take c.args.level.size c.keeps.new.work) (to_do (take c.args.level.size c.keeps.new.work) (trying c.in-Ask.asked.slots c.in-Ask.asked.set)) c.skip-at.result
+behind_skip t c asked = c.skip-at.ensures (problem_of c.args.entries.now c.args.q) (take c.args.level.size c.keeps.new.work) asked (rw c.if-keeps.false at c.keeps.ensures.answers)
 
 pub probe-loop-asked-smaller : goal.probe-loop-asked-smaller
 probe-loop-asked-smaller t c = omega (arith, (behind_skip t (goal.at.probe-loop-asked-smaller t c).After-skip-at (behind_keeps t (goal.at.probe-loop-asked-smaller t c).After-keeps)).less, keeps_to_do t (goal.at.probe-loop-asked-smaller t c).After-keeps)
