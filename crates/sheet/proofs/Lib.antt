@@ -2,5 +2,3 @@
 pub mod Reading
 -- the room tells of the whole input
 pub mod Whole
--- what is printed of a number
-pub mod Digits

@@ -6,7 +6,7 @@ ghost use Rattle.std.specs.Io.KnownBytes.{Appends};
 ghost use Rattle.sheet.specs.Line.{text_of};
 ghost use Rattle.sheet.specs.Program.{Prints};
 
-use crate::text::Line;
+use crate::text::{Line, line_of};
 use std::io;
 use std::io::{Read, Write};
 
@@ -35,11 +35,18 @@ pub fn line_for<R: Read>(input: &mut R) -> io::Result<Line>
     Ok(Line(crate::sheet_of(&room[..length])))
 }
 
-// Prints the line.
-pub fn print<W: Write>(output: &mut W, line: Line) -> io::Result<()>
+// Prints the bytes.
+pub fn print<W: Write>(output: &mut W, bytes: &[u8]) -> io::Result<()>
+    ensures { OnOk result (Appends (W.contents output.old) (W.contents output.new) bytes.now) }
+{
+    output.write_all(bytes)
+}
+
+// Prints the line, all of it at once.
+pub fn print_line<W: Write>(output: &mut W, line: Line) -> io::Result<()>
     ensures { OnOk result (Appends (W.contents output.old) (W.contents output.new) (text_of line.0)) }
 {
-    write!(output, "{line}")
+    print(output, line_of(line.0).as_bytes())
 }
 
 // What fails is said on the standard error.
@@ -51,7 +58,7 @@ pub fn run(rt: &(impl Input + Print + Eprint)) -> io::Result<()> {
             return Err(e);
         }
     };
-    let printed = print(&mut io::writer(rt), line);
+    let printed = print_line(&mut io::writer(rt), line);
     if printed.is_err() {
         eprintln!(rt; "the line cannot be printed")?;
     }
