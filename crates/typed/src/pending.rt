@@ -16,11 +16,11 @@ pub struct Waiting {
 }
 
 // What a writer holds: how many entries are written, the signs that wait for an operand, how many these are, and how many brackets are
-// open.
-#[derive(Drop)]
+// open. For a table 64 signs are the most that wait; there is a place for one behind them.
+#[derive(Clone, Copy)]
 pub struct Writer {
     pub entries: usize,
-    pub stack: [Waiting; 64],
+    pub stack: [Waiting; 65],
     pub pending: usize,
     pub depth: u32,
 }
@@ -55,7 +55,7 @@ impl Writer {
     {
         Writer {
             entries: 0,
-            stack: [Waiting { word: 0, depth: 0 }; 64],
+            stack: [Waiting { word: 0, depth: 0 }; 65],
             pending: 0,
             depth: 0,
         }
@@ -75,7 +75,7 @@ impl Writer {
 
     // One more sign waits.
     pub fn push(&mut self, e: Entry)
-        requires { Packable e × (self.old.pending < 64) }
+        requires { Packable e × (self.old.pending ≤ 64) }
         ensures { Pushed e self.old self.new }
     {
         self.stack[self.pending] = Waiting {
