@@ -46,7 +46,9 @@ fn want_part(entries: &[u64], q: Question, i: usize, v: Wants) -> Option<Wants>
     want_if(entries, first, u, false, limit)
 }
 
-// What a successor that keeps the promises of a set has to be like.
+// What a successor that keeps the promises of a set has to be like. Not laid into its caller, which would take its room on the
+// stack at every depth.
+#[inline(never)]
 pub fn promised(entries: &[u64], q: Question, promises: Set, depth: usize) -> Option<Wants>
     requires { Promising (problem_of entries.now q) (member promises) depth }
     ensures { PromisedIs (problem_of entries.now q) (member promises) depth result }
