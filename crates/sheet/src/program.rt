@@ -42,7 +42,7 @@ pub fn print<W: Write>(output: &mut W, bytes: &[u8]) -> io::Result<()>
     output.write_all(bytes)
 }
 
-// Prints the line, all of it at once.
+// Prints the line, all of it at once, so that the lines of several sheets in one file do not mix.
 pub fn print_line<W: Write>(output: &mut W, line: Line) -> io::Result<()>
     ensures { OnOk result (Appends (W.contents output.old) (W.contents output.new) (text_of line.0)) }
 {

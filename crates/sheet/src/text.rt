@@ -12,7 +12,7 @@ use std::fmt;
 #[derive(Clone, Copy)]
 pub struct Line(pub Result<Sheet, Fault>);
 
-// Puts a digit behind a text, or what stands so far behind 0 in ASCII.
+// Puts a digit behind a text. A refusal may have any number, so more than 9 is taken too, as far as ASCII goes.
 fn put_digit(text: &mut ArrayString<24>, digit: u8)
     requires { (digit < 80) × (array_string_len text.old < 24) }
     ensures { text.new.bytes ≡ text.old.bytes ++ ((48 + digit) ∷ []) }
@@ -65,7 +65,7 @@ pub fn line_of(sheet: Result<Sheet, Fault>) -> ArrayString<24>
 impl fmt::Display for Line {
     ghost output = { λ line. Some (text_of line.0) };
 
-    // In one piece.
+    // All at once: what is written in pieces can mix with what others write.
     fn fmt<W: fmt::Write>(&self, f: &mut fmt::Formatter<W>) -> fmt::Result {
         f.write_str(line_of(self.0).as_str())
     }
